@@ -1,0 +1,5 @@
+pub mod Functions
+pub mod Parts
+pub mod Present
+pub mod Speck
+pub mod Vectors
