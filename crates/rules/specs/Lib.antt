@@ -1,0 +1,13 @@
+pub mod Lists
+pub mod Domains
+pub mod Boot
+pub mod Console
+pub mod LookUp
+pub mod Visits
+pub mod Calls
+pub mod Runs
+pub mod History
+pub mod Isolation
+pub mod Worked
+pub mod Edges
+pub mod Conditions
