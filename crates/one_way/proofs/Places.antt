@@ -1,12 +1,12 @@
 -- A chain in an array of eight places.
-use Prim.Native.Nat.{ℕ, zero, suc, _+_, _-_, _≤_, _<_}
+use Prim.Native.Nat.{ℕ, zero, suc, _+_, _-_, _≤_, _<_, min}
 use mathlib.Core.Path.{_≡_, refl, sym, ap, _∙_}
 use mathlib.Core.Logic.{inl, inr}
 use mathlib.Core.List.{List, [], _∷_, _++_}
 use native.Mathlib.Omega.{arith}
 use lib.ListN.{length, getD, set, take, replicate, length-append, length-replicate}
 use borrow.Author.Count.{below-more}
-use Rattle.std.proofs.shelf.Lists.{getD-append-left, getD-append-right, getD-past, getD-replicate, getD-set-same, getD-set-other, ext-getD, length-set}
+use Rattle.std.proofs.shelf.Lists.{getD-append-left, getD-append-right, getD-past, getD-replicate, getD-set-same, getD-set-other, ext-getD, length-set, take-at}
 use Rattle.std.proofs.shelf.Tests.{cases-lt}
 use Rattle.vocabulary.specs.declared.parameter.Parameter.{Parameter}
 use Rattle.one_way.specs.Chains.{chain, eight-places}
@@ -75,3 +75,9 @@ module _ (H : Parameter → ℕ → ℕ) (p : Parameter) where
               f .blank k past
               ∙ sym (getD-append-right (chain H p m w) (replicate (8 - length (chain H p m w)) 0) m k 0 n past ∙ getD-replicate (8 - length (chain H p m w)) (k - m) 0 0 b)
         ])
+
+    -- the chain's own places of the eight
+    pub front : (xs : List ℕ) → m ≤ 8 → xs ≡ eight-places (chain H p (min m 8) w) → take m xs ≡ chain H p m w
+    front xs few e =
+        let n : min m 8 ≡ m = omega arith in
+        ap (take m) (e ∙ ap (λ k. eight-places (chain H p k w)) n) ∙ take-at (chain H p m w) (replicate (8 - length (chain H p m w)) 0) m (chain-length m w)

@@ -20,3 +20,4 @@ pub mod Noninterference
 pub mod Isolation
 pub mod Worked
 pub mod Conditions
+pub mod Or

@@ -11,3 +11,4 @@ pub mod Isolation
 pub mod Worked
 pub mod Edges
 pub mod Conditions
+pub mod Told

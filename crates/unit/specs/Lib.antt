@@ -1,0 +1,3 @@
+pub mod Model
+pub mod Rows
+pub mod Visits
