@@ -1,4 +1,6 @@
 //! The one-way functions, for the C program that times them.
+#![tactic(auto)]
+
 ghost use Rattle.std.specs.Prelude.{◌≡◌};
 ghost use Rattle.ciphers.specs.Functions.{present, speck};
 

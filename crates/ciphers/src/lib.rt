@@ -1,4 +1,6 @@
 //! Two block ciphers as one-way functions: Speck64/128 and PRESENT-80.
+#![tactic(auto)]
+
 ghost use Rattle.std.specs.Prelude.{◌≡◌};
 ghost use Rattle.ciphers.specs.Vectors.{PublishedVectors};
 

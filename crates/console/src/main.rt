@@ -1,5 +1,7 @@
 //! Makes the chain of an app with each one-way function, keeps it in RAM and in a status page that lie end to
 //! end, and reads it back.
+#![tactic(auto)]
+
 use ciphers::present::Present;
 use ciphers::speck::Speck;
 use memory::Memory;

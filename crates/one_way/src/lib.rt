@@ -1,4 +1,6 @@
 //! One-way functions from passwords to passwords, and the chains that they make.
+#![tactic(auto)]
+
 ghost use Rattle.std.specs.Prelude.{◌≡◌};
 ghost use Rattle.one_way.specs.OneWay.{Meaning};
 

@@ -1,4 +1,6 @@
 //! The slot table: eight slots with the apps' chains, and the questions about slots, chains and passwords.
+#![tactic(auto)]
+
 mod chain;
 mod entry;
 pub mod slot;

@@ -1,5 +1,6 @@
 //! The page fields, the reader of the boot table that sets them, and the protection unit that
 //! checks each access by them.
+#![tactic(auto)]
 
 mod check;
 pub mod fields;

@@ -1,4 +1,5 @@
 //! Runs the published vectors of both ciphers and edge cases of the memories, and fails where one differs.
+#![tactic(auto)]
 
 mod memories;
 mod one_way_functions;
