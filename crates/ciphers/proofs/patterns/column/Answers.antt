@@ -11,6 +11,6 @@ pub returns : goal.returns
 returns c =
     let s : ℕ = c.args.state in
     record {
-      value = ap₂ (λ (x y : ℕ). x + y) (c.byte-0.ensures ∙ ap pattern (and_mask s 8)) (c.byte-4.ensures ∙ ap (λ (v : ℕ). pattern v * 2 ^ 8) (and_mask (s / 2 ^ 32) 8));
-      bound = add_bound _ _ _ _ c.byte-0.ensures c.byte-4.ensures (pattern_small (bit_and s 255)) (pattern_small (bit_and (s / 2 ^ 32) 255));
+      value = ap₂ (λ (x y : ℕ). x + y) (c.byte_0.ensures ∙ ap pattern (and_mask s 8)) (c.byte_4.ensures ∙ ap (λ (v : ℕ). pattern v * 2 ^ 8) (and_mask (s / 2 ^ 32) 8));
+      bound = add_bound _ _ _ _ c.byte_0.ensures c.byte_4.ensures (pattern_small (bit_and s 255)) (pattern_small (bit_and (s / 2 ^ 32) 255));
     }

@@ -8,7 +8,7 @@ use Rattle.replay.proofs.run.between.Goals as goal
 
 pub returns-in-Create : goal.returns-in-Create
 returns-in-Create g c =
-    step (between g.F.OneWay.meaning g.M.Memory.pages g.M.Memory.effect c.args.console) c.args.call (exec (create c.in-Create.slot c.in-Create.parameter c.in-Create.master c.as-slice.result.now)) (ap call_of c.in-Create.is ∙ ap (λ ds. exec (create c.in-Create.slot c.in-Create.parameter c.in-Create.master ds)) (sym c.as-slice.ensures.value)) _ _ c.create-answer.ensures _ c.accepted.ensures
+    step (between g.F.OneWay.meaning g.M.Memory.pages g.M.Memory.effect c.args.console) c.args.call (exec (create c.in-Create.slot c.in-Create.parameter c.in-Create.master c.as_slice.result.now)) (ap call_of c.in-Create.is ∙ ap (λ ds. exec (create c.in-Create.slot c.in-Create.parameter c.in-Create.master ds)) (sym c.as_slice.ensures.value)) _ _ c.create-answer.ensures _ c.accepted.ensures
 
 pub returns-in-End : goal.returns-in-End
 returns-in-End g c =

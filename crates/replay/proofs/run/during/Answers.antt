@@ -37,12 +37,12 @@ returns-in-Fetch g c =
 pub returns-in-Visit : goal.returns-in-Visit
 returns-in-Visit g c =
     let n : length c.visit-answer.new.buffer ≡ vec_len c.in-Visit.buffer = search rules in
-    step (during g.F.OneWay.meaning g.M.Memory.pages g.M.Memory.effect c.args.turn) c.args.call (app (visit c.in-Visit.password c.as-slice.result.now c.as-mut-slice.result.now))
+    step (during g.F.OneWay.meaning g.M.Memory.pages g.M.Memory.effect c.args.turn) c.args.call (app (visit c.in-Visit.password c.as_slice.result.now c.as_mut_slice.result.now))
     (ap call_of c.in-Visit.is
-    ∙ ap (λ l. app (visit c.in-Visit.password l (vec_items c.in-Visit.buffer))) (sym c.as-slice.ensures.value)
-    ∙ ap (λ b. app (visit c.in-Visit.password c.as-slice.result.now b)) (sym c.as-mut-slice.ensures.value))
+    ∙ ap (λ l. app (visit c.in-Visit.password l (vec_items c.in-Visit.buffer))) (sym c.as_slice.ensures.value)
+    ∙ ap (λ b. app (visit c.in-Visit.password c.as_slice.result.now b)) (sym c.as_mut_slice.ensures.value))
     _ _ c.visit-answer.ensures.obeys _
-    (visit_heard c.visit-answer.result _ _ c.as-mut-slice.result.now (refill c.in-Visit.buffer c.visit-answer.new.buffer n) c.visit-answer.ensures.buffer)
+    (visit_heard c.visit-answer.result _ _ c.as_mut_slice.result.now (refill c.in-Visit.buffer c.visit-answer.new.buffer n) c.visit-answer.ensures.buffer)
 
 pub returns-in-Derive : goal.returns-in-Derive
 returns-in-Derive g c =

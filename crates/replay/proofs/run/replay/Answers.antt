@@ -8,7 +8,7 @@ pub returns-in-Ok : goal.returns-in-Ok
 returns-in-Ok g c =
     record {
       boot = c.in-Ok.ensures.answer;
-      ran = c.perform-all.ensures (setting g.F.OneWay.meaning g.M.Memory.pages g.M.Memory.effect c.args.table.now c.args.memory) [] (c.in-Ok.ensures.state ∙ start _);
+      ran = c.perform_all.ensures (setting g.F.OneWay.meaning g.M.Memory.pages g.M.Memory.effect c.args.table.now c.args.memory) [] (c.in-Ok.ensures.state ∙ start _);
       isolated = isolation _;
     }
 

@@ -12,12 +12,12 @@ loop-number-init c = table_start _ _ c.none-fields.ensures c.if-bytes-ne0.false 
 
 pub loop-number-preserved : goal.loop-number-preserved
 loop-number-preserved c =
-    row_accepted _ _ _ _ (row_of c.read-row.result) c.read-row.ensures _ c.set.ensures c.in-ok-ask.ensures.asked ∙ c.loop-number.invariant
+    row_accepted _ _ _ _ (row_of c.read-row.result) c.read-row.ensures _ c.set.ensures c.in_ok-ask.ensures.asked ∙ c.loop-number.invariant
 
-pub returns-in-err-ask : goal.returns-in-err-ask
-returns-in-err-ask c =
-    let p = err_from_is_err_and c.from-residual.result c.from-residual.ensures.1 in
-    rw (p.1, p.2) (row_refused _ _ _ _ (row_of c.read-row.result) c.read-row.ensures _ c.in-err-ask.ensures.asked ∙ c.loop-number.invariant)
+pub returns-in_err-ask : goal.returns-in_err-ask
+returns-in_err-ask c =
+    let p = err_from_is_err_and c.from_residual.result c.from_residual.ensures.1 in
+    rw (p.1, p.2) (row_refused _ _ _ _ (row_of c.read-row.result) c.read-row.ensures _ c.in_err-ask.ensures.asked ∙ c.loop-number.invariant)
 
 pub returns : goal.returns
 returns c = table_end _ _ _ _ (omega arith) ∙ c.loop-number.invariant

@@ -17,7 +17,7 @@ returns-then-self-context-eq0 c =
     let h : has (get_or (slot_of c.args.self.now).domains 0 0) c.args.context ≡ false =
     ap (λ e. has e c.args.context) d ∙ has_not (get_or c.args.self.now.domains 0 0) c.args.context c.if-self-context-eq0.true in
     record {
-      asked = λ o. c.in-ok-may-change.ensures.asked (refuse (by_table 15 c.args.place))
+      asked = λ o. c.in_ok-may_change.ensures.asked (refuse (by_table 15 c.args.place))
           ∙ ap (λ b. revoke_asks (slot_of c.args.self.now) c.args.w c.args.place c.args.context (ask b (by_table 15 c.args.place) o)) (sym h);
       domain = tt;
       sound = tt;
@@ -29,7 +29,7 @@ returns c =
     let ds = c.args.self.now.domains in
     let i : ℕ = c.args.place in
     let n : length (take m ds) ≡ m = length-take-le m ds (search rules) in
-    let b : (i < m) × (c.args.context < 16) = c.in-ok-may-change.ensures.bounds in
+    let b : (i < m) × (c.args.context < 16) = c.in_ok-may_change.ensures.bounds in
     let d : get_or (take m ds) 0 0 ≡ get_or ds 0 0 = get_or-take m ds 0 0 c.requires.0 in
     let e : get_or (take m ds) i 0 ≡ get_or ds i 0 = get_or-take m ds i 0 b.0 in
     let h : has (get_or (take m ds) 0 0) c.args.context ≡ true =
@@ -38,7 +38,7 @@ returns c =
     let at_i : i < length (take m ds) = omega (arith, n, b.0) in
     let new = with_mask (get_or ds i 0) c.args.context b.1 ∙ ap (λ x. with_context x c.args.context) (sym e) in
     record {
-      asked = λ o. c.in-ok-may-change.ensures.asked o
+      asked = λ o. c.in_ok-may_change.ensures.asked o
           ∙ ap (λ t. revoke_asks (slot_of c.args.self.now) c.args.w i c.args.context (ask t (by_table 15 i) o)) (sym h);
       domain = new;
       sound = (

@@ -12,9 +12,9 @@ returns g c =
     let n = sym (size_of c.args.self.now (search rules)) in
     let H = g.F.OneWay.meaning.H in
     record {
-      asked = λ o. c.new-chain.ensures.admitted o
+      asked = λ o. c.new_chain.ensures.admitted o
           ∙ ap (λ m. admit g.F.OneWay.meaning.greatest c.args.parameter (chain H c.args.parameter m c.args.w) o) n
           ∙ master c.args.self.now c.requires.0 _ _ c.if-w-self.false;
-      chain = subst (λ m. IfOk c.new-chain.result (λ ps. take m ps ≡ chain H c.args.parameter m c.args.w)) n c.new-chain.ensures.chain;
-      apart = c.new-chain.ensures.apart;
+      chain = subst (λ m. IfOk c.new_chain.result (λ ps. take m ps ≡ chain H c.args.parameter m c.args.w)) n c.new_chain.ensures.chain;
+      apart = c.new_chain.ensures.apart;
     }

@@ -12,12 +12,12 @@ returns c =
     let ds = c.args.self.now.domains in
     let i : ℕ = c.args.place in
     let n : length (take m ds) ≡ m = length-take-le m ds (search rules) in
-    let b : (i < m) × (c.args.context < 16) = c.in-ok-may-change.ensures.bounds in
+    let b : (i < m) × (c.args.context < 16) = c.in_ok-may_change.ensures.bounds in
     let e : get_or (take m ds) i 0 ≡ get_or ds i 0 = get_or-take m ds i 0 b.0 in
     let at_i : i < length (take m ds) = omega (arith, n, b.0) in
     let new = without_mask (get_or ds i 0) c.args.context b.1 ∙ ap (λ x. without_context x c.args.context) (sym e) in
     record {
-      asked = c.in-ok-may-change.ensures.asked;
+      asked = c.in_ok-may_change.ensures.asked;
       domain = new;
       sound = (
         b.0,

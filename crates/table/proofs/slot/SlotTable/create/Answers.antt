@@ -9,20 +9,20 @@ use Rattle.rules.specs.Told.{told}
 use Rattle.table.proofs.Creates.{not_created, created}
 use Rattle.table.proofs.slot.SlotTable.create.Goals as goal
 
-pub returns-in-err-passwords : goal.returns-in-err-passwords
-returns-in-err-passwords g c =
+pub returns-in_err-passwords : goal.returns-in_err-passwords
+returns-in_err-passwords g c =
     let f = slots_of c.args.self.now in
     let free : is_none (f c.args.slot) ≡ true = search rules in
-    let e = err_from_is_err_and c.from-residual.result c.from-residual.ensures.1 in
+    let e = err_from_is_err_and c.from_residual.result c.from_residual.ensures.1 in
     let r = not_created g.F.OneWay.meaning f c.args.slot c.args.parameter c.args.master c.args.domains.now
-    (search rules) free (search rules) (search rules) (reason c.in-err-passwords.field-0.0) c.in-err-passwords.ensures.admitted in
+    (search rules) free (search rules) (search rules) (reason c.in_err-passwords.field-0.0) c.in_err-passwords.ensures.admitted in
     record { answer = λ k t m. ap (told (λ _. done)) e.1 ∙ ap (λ x. refused (reason x)) e.2 ∙ r.0 k t m; state = r.1 }
 
 pub returns : goal.returns
 returns g c =
     let f = slots_of c.args.self.now in
     let free : is_none (f c.args.slot) ≡ true = search rules in
-    let d = c.in-ok-passwords.ensures in
+    let d = c.in_ok-passwords.ensures in
     let r = created g.F.OneWay.meaning f c.args.slot c.args.parameter c.args.master c.args.domains.now
     (search rules) free (search rules) (search rules) d.admitted (slots_of c.store.new.self)
     (c.store.ensures

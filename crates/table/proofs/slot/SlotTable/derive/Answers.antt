@@ -1,5 +1,5 @@
 use Rattle.std.proofs.Common.{◌≡◌, sym, ap, ◌∙◌}
-use Rattle.rules.specs.Console.{Console, answer_of, after, goal as need_one, out_of_turn}
+use Rattle.rules.specs.Console.{Console, answer_of, after, need as need_one, out_of_turn}
 use Rattle.rules.specs.Calls.{derive_rule}
 use Rattle.table.specs.Model.{slot_of, slots_of, console_with}
 use Rattle.table.proofs.slot.SlotTable.derive.Goals as goal

@@ -5,7 +5,7 @@ use Rattle.table.specs.Model.{entry_of, slots_of, found_at}
 use Rattle.table.proofs.Search.{place_skip, place_hit, place_end}
 use Rattle.table.proofs.LookUp.{read_at, pass, hit, end}
 use Rattle.table.proofs.slot.SlotTable.elsewhere.Goals as goal
-use Rattle.table.proofs.slot.SlotTable.elsewhere.Goals.{in-Some+else-loop-place-test, in-default}
+use Rattle.table.proofs.slot.SlotTable.elsewhere.Goals.{in-Some+else-loop-place-test, in_default}
 
 pub search-preserved-then-slot-own : goal.search-preserved-then-slot-own
 search-preserved-then-slot-own c = (
@@ -37,8 +37,8 @@ search-preserved c =
                 ∙ c.search.invariant.0,
             v.opened-is ∙ v.loop-place.invariant.1,
           )
-      | in-default v ↦
-          let e : get_or c.args.self.now.slots c.search.slot None ≡ None = read_at c.args.self.now.slots c.search.slot _ None _ (search rules) v.in-default.is in (
+      | in_default v ↦
+          let e : get_or c.args.self.now.slots c.search.slot None ≡ None = read_at c.args.self.now.slots c.search.slot _ None _ (search rules) v.in_default.is in (
             pass (slots_of c.args.self.now) c.args.w c.search.slot c.search-test.true (ap (λ o. place_of c.args.w (passwords_of (entry_of o))) e)
                 ∙ c.search.invariant.0,
             v.opened-is ∙ c.search.invariant.1,

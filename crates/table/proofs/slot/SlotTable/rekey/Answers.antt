@@ -9,10 +9,10 @@ pub returns : goal.returns
 returns g c =
     let way = g.F.OneWay.meaning in
     let σ = slot_of c.app-app.result in
-    let d = c.in-ok-passwords.ensures in
+    let d = c.in_ok-passwords.ensures in
     let r = changes (slots_of c.args.self.now) c.args.own σ c.app-app.ensures.app
     (λ τ. rekey_asks way τ c.args.w c.args.parameter) d.asked
-    (slots_of c.store.new.self) (slot_of c.with-chain.result) c.store.ensures
+    (slots_of c.store.new.self) (slot_of c.with_chain.result) c.store.ensures
     (λ τ. with_chain τ c.args.parameter (new_passwords way τ c.args.w c.args.parameter)) (λ τ. done) done
-    (c.with-chain.ensures.slot ∙ ap (with_chain σ c.args.parameter) d.chain) refl in
+    (c.with_chain.ensures.slot ∙ ap (with_chain σ c.args.parameter) d.chain) refl in
     record { answer = r.0; state = r.1; taken = r.2 }
