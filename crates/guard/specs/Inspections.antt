@@ -1,5 +1,4 @@
 -- What the executive looks at.
-use Rattle.std.specs.Prelude.{Option}
 use Rattle.one_way.specs.OneWay.{Meaning}
 use Rattle.memory.specs.Pages.{Pages, Effect}
 use Rattle.rules.specs.Console.{holding}

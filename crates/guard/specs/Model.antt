@@ -1,5 +1,5 @@
 -- The console of the code, as the rules see it, and what a call's contract says.
-use Rattle.std.specs.Prelude.{◌≡◌, ℕ, List, get_or, Some, None, Ok, Err, Result}
+use Rattle.std.specs.Prelude.{◌≡◌, ℕ, List, Some, None, Ok, Err, Result}
 use Rattle.vocabulary.specs.declared.refusal.Refusal.{Refusal}
 use Rattle.vocabulary.specs.Refusals.{reason}
 use Rattle.one_way.specs.OneWay.{Meaning}

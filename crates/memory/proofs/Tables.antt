@@ -1,11 +1,11 @@
 -- Pages that are given by their bytes: what is read, and what a write of one byte leaves.
-use Rattle.std.proofs.Common.{◌≡◌, ℕ, ◌+◌, ◌-◌, ◌*◌, ◌/◌, ◌%◌, ◌<◌, ◌≤◌, Bool, true, false, cond, ◌&&◌, eqb, ltb, ◌⊎◌, List, length, get_or, set, sym, refl, ap, ◌∙◌, inl, inr, arith}
+use Rattle.std.proofs.Common.{◌≡◌, ℕ, ◌+◌, ◌-◌, ◌*◌, ◌<◌, ◌≤◌, true, cond, ◌&&◌, eqb, ltb, List, length, get_or, set, sym, ap, ◌∙◌, inl, inr, arith}
 use mathlib.Core.Path.{fun_ext}
 use lib.Bits.{bit_and}
 use Rattle.std.proofs.lemmas.List.FromFn.{get_or-map-range_with_len, length-map-range_with_len}
 use Rattle.std.proofs.lemmas.List.{length-set, get_or_default, get_or_past, get_or-set_same, get_or-set_other, same_lists, set_past}
 use Rattle.std.proofs.lemmas.Bool.{cases_Bool, cases_eq, cond-true, cond-false, ltb-true, lt-ltb, eq-eqb, ne_eqb, eqb-false}
-use Rattle.memory.specs.Pages.{Page, blank, page_of, offset_of, put, byte_at, byte_in, read_at, write_at}
+use Rattle.memory.specs.Pages.{blank, page_of, offset_of, put, byte_at, read_at, write_at}
 use Rattle.memory.specs.Kinds.{page_by, pages_by, bytes_byte, bytes_pages, ram_effect, stored, status_byte, status_pages, status_effect, cleared}
 use Rattle.memory.proofs.Entries.{everywhere}
 

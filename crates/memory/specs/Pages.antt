@@ -1,5 +1,5 @@
 -- Memories: 64 pages of 256 bytes, and a rule that says what a write does to a page.
-use Rattle.std.specs.Prelude.{◌≡◌, ℕ, ◌/◌, ◌%◌, ◌≤◌, Bool, true, false, cond, List, length, get_or, replicate, ◌==◌, nat_lt}
+use Rattle.std.specs.Prelude.{◌≡◌, ℕ, ◌/◌, ◌%◌, ◌≤◌, cond, List, length, get_or, replicate, ◌==◌, nat_lt}
 
 -- a page: its bytes
 pub record Page : Type 0 where

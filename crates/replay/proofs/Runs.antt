@@ -8,7 +8,7 @@ use Rattle.rules.specs.Runs.{Run, booted, state, answer, run_on}
 use Rattle.guard.specs.Model.{View}
 use Rattle.replay.specs.declared.call.Call.{Call}
 use Rattle.replay.specs.declared.call.Outcome.{Outcome}
-use Rattle.replay.specs.Model.{Heard, Performed, Ran, call_of, heard_of, hears, heard_on, stood}
+use Rattle.replay.specs.Model.{Performed, Ran, call_of, heard_of, hears, heard_on, stood}
 
 run_snoc : (r : Run) (cs : List rules.Call) (c : rules.Call) → run_on r (cs ++ c ∷ []) ≡ c ∷ run_on r cs
 run_snoc r [] c = refl

@@ -6,7 +6,7 @@ use Rattle.rules.specs.Boot.{field_of_rows}
 use Rattle.rules.specs.Conditions.{app_a, first_run, second_run, ConditionsCanBeMet}
 use Rattle.rules.specs.Console.{Setting, Request, Call, exec, app}
 use Rattle.rules.specs.Domains.{shares, with_context, without_context, union_from, permits, Allow}
-use Rattle.rules.specs.History.{App, Holder, presented, new_holder, created, running, holder, in_turn, apps, chain_of}
+use Rattle.rules.specs.History.{App, Holder, presented, new_holder, running, holder, in_turn, apps, chain_of}
 use Rattle.rules.specs.Isolation.{HeldBy, PresentsApart, compared, answers, Comparable}
 use Rattle.rules.specs.Lists.{Holds}
 use Rattle.rules.specs.LookUp.{look_up}
@@ -15,7 +15,6 @@ use Rattle.rules.specs.Worked.{drill_and_ram, worked, worked_field}
 use Rattle.rules.proofs.Cases.{heads, tails, nil_not_cons}
 use Rattle.rules.proofs.Noninterference.{noninterference}
 use Rattle.rules.proofs.Options.{some_injective, some_not_none}
-use Rattle.rules.proofs.Turns.{answered}
 
 -- ---- how the condition on presented passwords is met, call by call
 request_in : Call → Option Request

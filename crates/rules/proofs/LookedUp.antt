@@ -4,7 +4,7 @@ use Rattle.vocabulary.specs.declared.found.Found.{Found}
 use Rattle.vocabulary.specs.Refusals.{by_table}
 use Rattle.rules.specs.Calls.{activate_done}
 use Rattle.rules.specs.Console.{Setting, Slot, activate, app, value, accepted, answer_of, need}
-use Rattle.rules.specs.History.{Holder, holder, chain_of, found}
+use Rattle.rules.specs.History.{Holder, holder, chain_of}
 use Rattle.rules.specs.Isolation.{register_of, Stands, Lacks, Finds, LookedUp, passwords_in}
 use Rattle.rules.specs.LookUp.{place_of, passwords_of, look_up}
 use Rattle.rules.specs.Runs.{Run, state, answer}

@@ -4,11 +4,9 @@ use Rattle.memory.specs.Kinds.{page_by}
 use Rattle.rules.specs.Boot.{field_of_rows, boot_rule}
 use Rattle.rules.specs.Domains.{with_context, without_context, union_from}
 use Rattle.rules.specs.Edges.{Edges}
-use Rattle.rules.specs.History.{created}
 use Rattle.rules.specs.LookUp.{look_up}
 use Rattle.rules.specs.Runs.{state, answer}
 use Rattle.rules.specs.Worked.{drill_and_ram, WorkedConsole}
-use Rattle.rules.proofs.Faults.{visits}
 
 pub worked_console : WorkedConsole
 unfolding drill_and_ram page_by field_of_rows boot_rule with_context without_context union_from look_up state answer

@@ -6,7 +6,6 @@ use Rattle.vocabulary.specs.Refusals.{by_reader, by_unit, by_turn}
 use Rattle.rules.specs.Boot.{Row, table_refused, table_read, boot_rule}
 use Rattle.rules.specs.Console.{Setting, create, turn, Request, activate, visit, grant, access, Call, exec, app, visited, Answer, refused, accepted}
 use Rattle.rules.specs.Domains.{Fields, permits}
-use Rattle.rules.specs.History.{created}
 use Rattle.rules.specs.Runs.{Run, answer, answers_on, run_on}
 use Rattle.rules.specs.Worked.{drill_and_ram, row, low, accepts, gives, refuses, slot_a, Says}
 

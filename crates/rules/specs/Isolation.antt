@@ -7,7 +7,7 @@ use Rattle.vocabulary.specs.Refusals.{Reason, by_table, by_unit, by_turn}
 use Rattle.memory.specs.Pages.{page_of}
 use Rattle.rules.specs.Console.{Setting, Register, holding, Slot, Console, Executive, create, end, turn, close, Request, activate, visit, derive, access, Call, exec, app, Reply, done, value, visited, Answer, refused, accepted, out_of_turn, is_at}
 use Rattle.rules.specs.Domains.{has, Within, Allow}
-use Rattle.rules.specs.History.{App, Presented, Holder, Passed, executive_calls, presented, turns_allow, created, running, holder, in_turn, apps, chain_of, domain_of, passed, written}
+use Rattle.rules.specs.History.{App, Presented, Holder, Passed, executive_calls, presented, turns_allow, running, holder, in_turn, apps, chain_of, domain_of, passed, written}
 use Rattle.rules.specs.Lists.{Any, All, Holds}
 use Rattle.rules.specs.LookUp.{place_of, first_repeat, passwords_of}
 use Rattle.rules.specs.Runs.{Run, state, answer}

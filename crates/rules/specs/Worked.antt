@@ -10,7 +10,6 @@ use Rattle.memory.specs.Kinds.{bytes_pages, ram_effect}
 use Rattle.rules.specs.Boot.{Row, field_of_rows, table_read, boot_rule}
 use Rattle.rules.specs.Console.{Setting, create, turn, Request, activate, visit, grant, revoke, derive, rekey, Call, exec, app, done, value, visited, Answer, refused, accepted}
 use Rattle.rules.specs.Domains.{Fields, permits}
-use Rattle.rules.specs.History.{created}
 use Rattle.rules.specs.LookUp.{passwords_of}
 use Rattle.rules.specs.Runs.{Run, state, answer, answers_on, run_on}
 

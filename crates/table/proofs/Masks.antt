@@ -1,8 +1,8 @@
 -- Domains bit by bit: the mask of a context, and domains that lie within others.
-use Rattle.std.proofs.Common.{◌≡◌, ℕ, zero, suc, ◌+◌, ◌*◌, ◌/◌, ◌%◌, ◌^◌, ◌<◌, ◌≤◌, min, max, true, false, sym, refl, ap, ◌∙◌, mul_comm, pow-suc, div-one, arith, lit≤}
+use Rattle.std.proofs.Common.{◌≡◌, ℕ, zero, suc, ◌+◌, ◌*◌, ◌/◌, ◌%◌, ◌^◌, ◌<◌, ◌≤◌, min, true, false, sym, refl, ap, ◌∙◌, mul_comm, pow-suc, div-one, arith, lit≤}
 use lib.Arith.{bin_ind}
 use native.Mathlib.Nat.{div-div-eq-div-mul}
-use lib.Bits.{bit_and, bit_or, bit_xor, differ, or_step, or_shr, or_comm, or_self, and_step, and_shr, and_mask, xor_step, xor_shr}
+use lib.Bits.{bit_and, bit_or, bit_xor, differ, or_shr, or_comm, or_self, and_step, and_shr, and_mask, xor_step, xor_shr}
 use Rattle.std.proofs.lemmas.Nat.{one_shl}
 use Rattle.std.proofs.lemmas.Bool.{eq-eqb, ne_eqb, eqb-true}
 use Rattle.rules.proofs.Or.{or_half, or_odd, same_digits, or_assoc}

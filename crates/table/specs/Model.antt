@@ -3,7 +3,7 @@ use Rattle.std.specs.Prelude.{◌≡◌, ℕ, List, length, take, Some, None, Ok
 use Rattle.vocabulary.specs.declared.found.Found.{Found}
 use Rattle.vocabulary.specs.declared.refusal.Refusal.{Refusal}
 use Rattle.vocabulary.specs.declared.parameter.Parameter.{Parameter}
-use Rattle.vocabulary.specs.Refusals.{reason, by_table}
+use Rattle.vocabulary.specs.Refusals.{by_table}
 use Rattle.one_way.specs.Chains.{chain}
 use Rattle.one_way.specs.OneWay.{Meaning}
 use Rattle.memory.specs.Pages.{Page}

@@ -1,9 +1,6 @@
 -- Page fields and answers of the code, in the rules' words.
-use Rattle.std.specs.Prelude.{ℕ, Some, None, Ok, Err, Option, Result, slice_index}
+use Rattle.std.specs.Prelude.{slice_index}
 use Rattle.vocabulary.specs.declared.access.Right.TheVariants.{Read, Write, Execute}
-use Rattle.vocabulary.specs.declared.refusal.Refusal.{Refusal}
-use Rattle.vocabulary.specs.Refusals.{Reason, reason}
-use Rattle.rules.specs.Console.{Reply, Answer, refused, accepted}
 use Rattle.rules.specs.Domains.{Fields}
 use Rattle.unit.specs.declared.fields.PageFields.{PageFields}
 

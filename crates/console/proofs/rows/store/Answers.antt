@@ -1,4 +1,4 @@
-use Rattle.std.proofs.Common.{◌≡◌, ◌+◌, ◌≤◌, length, get_or, drop, sym, ap, ◌∙◌, arith}
+use Rattle.std.proofs.Common.{◌+◌, ◌≤◌, length, get_or, drop, sym, ap, ◌∙◌, arith}
 use Rattle.memory.specs.Pages.{write_at}
 use Rattle.console.specs.Rows.{stored_from}
 use Rattle.console.proofs.InOrder.{stored_all, stored_more}

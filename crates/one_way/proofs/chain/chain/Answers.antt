@@ -1,4 +1,4 @@
-use Rattle.std.proofs.Common.{◌≡◌, ℕ, ◌<◌, ◌≤◌, min, sym, subst, arith}
+use Rattle.std.proofs.Common.{◌≡◌, ℕ, ◌≤◌, min, subst, arith}
 use Rattle.one_way.proofs.Places.{Filled, filled_first, filled_next, filled_all}
 use Rattle.one_way.proofs.chain.chain.Goals as goal
 

@@ -1,7 +1,6 @@
-use Rattle.std.proofs.Common.{◌≡◌, vec_items, sym, refl, ap, ◌∙◌}
-use Rattle.vocabulary.specs.declared.access.Access.TheVariants.{Read, Write, Fetch}
-use Rattle.rules.specs.Console.{exec, app, create, end, turn, close, activate, visit, grant, revoke, derive, rekey, access}
-use Rattle.guard.specs.Model.{between, during}
+use Rattle.std.proofs.Common.{sym, refl, ap, ◌∙◌}
+use Rattle.rules.specs.Console.{exec, create, end, turn}
+use Rattle.guard.specs.Model.{between}
 use Rattle.replay.specs.Model.{call_of}
 use Rattle.replay.proofs.Steps.{step}
 use Rattle.replay.proofs.run.between.Goals as goal

@@ -1,7 +1,7 @@
 use Rattle.std.proofs.Common.{◌≡◌, length, vec_items, vec_len, sym, refl, ap, ◌∙◌, rules}
 use Rattle.vocabulary.specs.declared.access.Access.TheVariants.{Read, Write, Fetch}
-use Rattle.rules.specs.Console.{exec, app, create, end, turn, close, activate, visit, grant, revoke, derive, rekey, access}
-use Rattle.guard.specs.Model.{between, during}
+use Rattle.rules.specs.Console.{exec, app, close, activate, visit, grant, revoke, derive, rekey, access}
+use Rattle.guard.specs.Model.{during}
 use Rattle.replay.specs.Model.{call_of}
 use Rattle.replay.proofs.Steps.{step, refill, visit_heard}
 use Rattle.replay.proofs.run.during.Goals as goal

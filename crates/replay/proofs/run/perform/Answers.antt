@@ -1,4 +1,4 @@
-use Rattle.std.proofs.Common.{◌≡◌, sym, subst}
+use Rattle.std.proofs.Common.{sym, subst}
 use Rattle.replay.specs.Model.{Performed, call_of, heard_of, view}
 use Rattle.replay.proofs.run.perform.Goals as goal
 

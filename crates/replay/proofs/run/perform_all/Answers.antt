@@ -1,4 +1,4 @@
-use Rattle.std.proofs.Common.{◌≡◌, [], ◌∷◌, ◌++◌, map, vec_items, sym, ap, subst}
+use Rattle.std.proofs.Common.{[], ◌∷◌, ◌++◌, map, vec_items, sym, subst}
 use Rattle.replay.specs.Model.{Ran, call_of, heard_of, view}
 use Rattle.replay.proofs.Runs.{ran_more}
 use Rattle.replay.proofs.run.perform_all.Goals as goal

@@ -1,4 +1,4 @@
-use Rattle.std.proofs.Common.{◌≡◌, [], refl, ap, ◌∙◌, rules}
+use Rattle.std.proofs.Common.{[], ◌∙◌}
 use Rattle.rules.proofs.Isolation.{isolation}
 use Rattle.guard.specs.Model.{setting}
 use Rattle.replay.proofs.Runs.{start}

@@ -1,4 +1,4 @@
-use Rattle.std.proofs.Common.{◌≡◌, get_or, sym, ap, ◌∙◌, arith, rules}
+use Rattle.std.proofs.Common.{get_or, sym, ap, ◌∙◌, arith, rules}
 use Rattle.memory.proofs.Tables.{status_read, status_elsewhere}
 use Rattle.memory.proofs.status_page.StatusPageMemory.read.Goals as goal
 use Rattle.memory.proofs.status_page.StatusPageMemory.read.Goals.{else-address-lt-END-via-then-address-lt-END+else-page-self, else-address-lt-END-via-else-address-lt-END}

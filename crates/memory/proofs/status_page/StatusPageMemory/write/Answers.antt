@@ -1,4 +1,4 @@
-use Rattle.std.proofs.Common.{◌≡◌, ℕ, ◌-◌, get_or, set, sym, refl, ap, ◌∙◌, arith, rules}
+use Rattle.std.proofs.Common.{ℕ, ◌-◌, get_or, set, sym, refl, ap, ◌∙◌, arith, rules}
 use lib.Bits.{bit_and}
 use Rattle.memory.specs.Kinds.{status_pages}
 use Rattle.memory.proofs.Tables.{status_write, cleared_here, cleared_elsewhere}

@@ -1,4 +1,4 @@
-use Rattle.std.proofs.Common.{◌+◌, ◌<◌, ◌≤◌, length, ap, arith, rules}
+use Rattle.std.proofs.Common.{◌+◌, ◌<◌, ◌≤◌, ap, arith, rules}
 use Rattle.rules.specs.Console.{answer_of, after}
 use Rattle.table.proofs.Derives.{too_far, derived}
 use Rattle.table.proofs.slot.Slot.derived.Goals as goal

@@ -1,4 +1,4 @@
-use Rattle.std.proofs.Common.{◌≡◌, length, get_or, Some, None, sym, refl, ap, ◌∙◌, rules}
+use Rattle.std.proofs.Common.{◌≡◌, get_or, Some, None, sym, refl, ap, ◌∙◌, rules}
 use Rattle.std.proofs.lemmas.List.{get_or-take}
 use Rattle.rules.specs.LookUp.{place_of, passwords_of, domains_of}
 use Rattle.table.specs.Model.{entry_of, slots_of}
