@@ -1,4 +1,4 @@
--- The look_up finds w in the own chain, else in the lowest slot whose chain holds it, else not at all.
+-- The look-up finds w in the own chain, else in the lowest slot whose chain holds it, else not at all.
 use Rattle.std.proofs.Common.{◌≡◌, ℕ, Some, None, Option, refl, ap, ◌∙◌, subst, inl, inr, arith}
 use Rattle.vocabulary.specs.declared.found.Found.{Found}
 use Rattle.vocabulary.specs.Refusals.{by_table}

@@ -48,7 +48,7 @@ module _ (S : Setting) where
   ends d l n None h = h
   ends d l n (Some f) (b, rest, h, e) = (b, rest, h, subst (λ j. Fault S d b j f) (zero-add n) e)
 
-  -- the questions of a visit, before the look_up
+  -- the questions of a visit, before the look-up
   visit_asks : (P : Answer → Type 0) (l : List Access) (b : List ℕ) (o : Outcome) → ((f : Reason) → Unopened S l b f → P (refused f)) → P (answer_of o) →
       P (answer_of (ask (leb (length l) 64) (by_turn 18 0) (ask (leb (length l) (length b)) (by_turn 19 0) o)))
   visit_asks P l b o n y =

@@ -1,4 +1,4 @@
--- Places of passwords in a chain, and the look_up through the slots.
+-- Places of passwords in a chain, and the look-up through the slots.
 use Rattle.std.specs.Prelude.{ℕ, zero, suc, cond, List, [], ◌∷◌, length, Some, None, Option, ◌==◌, slice_index}
 use Rattle.vocabulary.specs.declared.found.Found.{Found}
 use Rattle.rules.specs.Console.{Slot, is_at}

@@ -1,4 +1,4 @@
--- The look_up over the table's slots.
+-- The look-up over the table's slots.
 use Rattle.std.proofs.Common.{◌≡◌, ℕ, zero, suc, ◌+◌, ◌-◌, ◌<◌, List, [], ◌∷◌, length, get_or, Some, None, Option, sym, ap, ◌∙◌, arith}
 use Rattle.rules.specs.Console.{Slot}
 use Rattle.rules.specs.LookUp.{place_of, passwords_of, found_in, or_else, search_slots, look_up}

@@ -32,7 +32,7 @@ returns-in-Write g c =
 
 pub returns-in-Fetch : goal.returns-in-Fetch
 returns-in-Fetch g c =
-    step (during g.F.OneWay.meaning g.M.Memory.pages g.M.Memory.effect c.args.turn) c.args.call (app (access (Fetch c.in-Fetch.address))) (ap call_of c.in-Fetch.is) _ _ c.fetch-answer.ensures _ c.byte-in-Fetch.ensures
+    step (during g.F.OneWay.meaning g.M.Memory.pages g.M.Memory.effect c.args.turn) c.args.call (app (access (Fetch c.in-Fetch.address))) (ap call_of c.in-Fetch.is) _ _ (assumption c) _ c.byte-in-Fetch.ensures
 
 pub returns-in-Visit : goal.returns-in-Visit
 returns-in-Visit g c =

@@ -1,11 +1,9 @@
-use Rattle.std.proofs.Common.{Some, refl}
-use Rattle.rules.specs.Console.{holding}
+use Rattle.std.proofs.Common.{refl}
+use Rattle.rules.specs.Console.{need, out_of_turn}
+use Rattle.rules.specs.Calls.{rekey_rule}
+use Rattle.guard.proofs.Calls.{by_table}
 use Rattle.guard.proofs.state.Turn.rekey.Goals as goal
 
+-- what the table's call ensures is found by its rule
 pub returns : goal.returns
-returns g c =
-    record {
-      answers = c.rekey.ensures.answer (holding c.args.self.now.register) (Some c.args.self.now.slot) (g.M.Memory.pages c.args.self.now.memory).page;
-      leaves = c.rekey.ensures.state (holding c.args.self.now.register) (Some c.args.self.now.slot) (g.M.Memory.pages c.args.self.now.memory).page;
-      keeps = refl;
-    }
+returns g c = by_table _ _ _ _ _ _ _ _ (λ k. need (k.slots c.args.self.now.slot) out_of_turn (λ σ. rekey_rule g.F.OneWay.meaning k c.args.self.now.slot σ c.args.master c.args.parameter)) refl (assumption c) (assumption c)
