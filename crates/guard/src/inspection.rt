@@ -2,7 +2,7 @@ use table::slot::SlotTable;
 use unit::fields::PageFields;
 
 /// What the executive can look at, between turns and in one: the tables, the register, the slot whose turn it is, and
-/// the memory. Looking changes nothing; no app is handed this.
+/// the memory. Looking changes nothing. It asks for no right: whoever holds a `Turn` can look.
 #[derive(Drop)]
 pub struct Inspection<'a, M> {
     pub fields: &'a PageFields,

@@ -20,9 +20,9 @@ use Rattle.replay.specs.declared.stage.Stage.{Stage}
 use Rattle.replay.specs.Model.{Heard, Performed, call_of, hears, heard_of, view}
 
 -- a call performed at a stage that is known
-pub at_stage : {F M : Type 0} (way : Meaning) (pages : M → Pages) (effect : M → Effect) (s s' : Stage F M) → s ≡ s' → (c : rules.Call) (h : Heard) (V : View)
+pub at_stage : {F M : Type 0} (way : Meaning) (pages : M → Pages) (effect : M → Effect) (s s' : Stage F M) → s ≡ s' → {c : rules.Call} {h : Heard} {V : View}
     → Performed (view way pages effect s') c h V → Performed (view way pages effect s) c h V
-at_stage way pages effect s s' e c h V p = subst (λ z. Performed (view way pages effect z) c h V) (sym e) p
+at_stage way pages effect s s' e {c = c} {h = h} {V = V} p = subst (λ z. Performed (view way pages effect z) c h V) (sym e) p
 
 pub step : (V : View) (x : Call) (c : rules.Call) → call_of x ≡ c → (a : Answer) (V' : View) → Obeys V c a V' → (h : Heard) → h ≡ hears c a → Performed V (call_of x) h V'
 step V x c e a V' o h q =

@@ -4,6 +4,6 @@ use Rattle.rules.specs.Calls.{revoke_rule}
 use Rattle.guard.proofs.Calls.{by_table}
 use Rattle.guard.proofs.state.Turn.revoke.Goals as goal
 
--- what the table's call ensures is found by its rule
+-- names no step, so that another call in this one's place leaves the fact open
 pub returns : goal.returns
-returns g c = by_table _ _ _ _ _ _ _ _ (λ k. need (k.slots c.args.self.now.slot) out_of_turn (λ σ. revoke_rule k c.args.self.now.slot σ c.args.master c.args.place c.args.context)) refl (assumption c) (assumption c)
+returns g c = by_table (λ k. need (k.slots c.args.self.now.slot) out_of_turn (λ σ. revoke_rule k c.args.self.now.slot σ c.args.master c.args.place c.args.context)) refl (assumption c) (assumption c)
