@@ -1,11 +1,12 @@
 //! One-way functions from passwords to passwords, and the chains that they make.
 #![tactic(auto)]
 
-ghost use Rattle.std.specs.Prelude.{◌≡◌};
+ghost use Rattle.std.specs.Prelude.{◌≡◌, ℕ};
 ghost use Rattle.one_way.specs.OneWay.{Meaning};
 
 use vocabulary::parameter::Parameter;
 
+pub mod block_cipher;
 pub mod chain;
 pub mod drill;
 
@@ -15,14 +16,15 @@ pub trait OneWay {
     /// The greatest high half of a parameter that is admitted.
     const GREATEST_HIGH: u64;
 
+    ghost GREATEST_HIGH: { ℕ };
+
     // The function itself, and the greatest high half.
     ghost meaning: { Meaning };
-
-    /// `GREATEST_HIGH`, for generic code: what it compares with is then known to be the meaning's.
-    fn high_limit() -> u64
-        ensures { result ≡ meaning.greatest };
 
     /// The password after this one.
     fn step(&self, parameter: Parameter, password: u64) -> u64
         ensures { result ≡ meaning.H parameter password };
+
+    // The constant is the meaning's.
+    ghost greatest: { GREATEST_HIGH ≡ meaning.greatest };
 }

@@ -1,7 +1,6 @@
 -- The boot table: rows of four bytes, and the page fields that they set.
 use Rattle.std.specs.Prelude.{ℕ, suc, ◌+◌, ◌%◌, Bool, cond, ◌&&◌, ◌||◌, List, [], ◌∷◌, length, ◌==◌, nat_le, nat_lt}
-use Rattle.vocabulary.specs.declared.access.Right.{Right}
-use Rattle.vocabulary.specs.declared.access.Right.TheVariants as right
+use Rattle.vocabulary.specs.Accesses.{right_number}
 use Rattle.vocabulary.specs.Refusals.{Reason, by_reader}
 use Rattle.rules.specs.Domains.{with_context, Fields}
 
@@ -11,11 +10,6 @@ pub record Row : Type 0 where
   pub right : ℕ
   pub first : ℕ
   pub count : ℕ
-
-abbrev pub right_number : Right → ℕ
-right_number right.Read = 1
-right_number right.Write = 2
-right_number right.Execute = 4
 
 -- each row sets its context's bit in that field of its pages
 unfoldable pub field_of_rows : List Row → Fields

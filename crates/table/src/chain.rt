@@ -38,7 +38,7 @@ pub(crate) fn new_chain<F: OneWay>(
     ensures chain { IfOk result (λ ps. take length ps ≡ passwords_from F.OneWay.meaning.H parameter length master) }
     ensures admitted { (o : Outcome) → asked result o ≡ admit F.OneWay.meaning.greatest parameter (passwords_from F.OneWay.meaning.H parameter length master) o }
 {
-    if parameter.high > F::high_limit() {
+    if parameter.high > F::GREATEST_HIGH {
         return Err(Refusal::HighHalf);
     }
     let passwords = chain(function, parameter, master, length);

@@ -1,9 +1,10 @@
 -- Rows of the boot table and what the reader answers, in the rules' words.
 use Rattle.std.specs.Prelude.{ℕ, ◌+◌, Bool, cond, ◌&&◌, Some, None, Ok, Err, Option, Result, ◌==◌, nat_le, nat_lt}
+use Rattle.vocabulary.specs.Accesses.{right_number}
 use Rattle.vocabulary.specs.declared.access.Right.{Right}
 use Rattle.vocabulary.specs.declared.refusal.Refusal.{Refusal}
 use Rattle.vocabulary.specs.Refusals.{Reason, reason, by_reader}
-use Rattle.rules.specs.Boot.{Row, right_number, field_of_rows, Booting, table_refused, table_read, row_fits}
+use Rattle.rules.specs.Boot.{Row, field_of_rows, Booting, table_refused, table_read, row_fits}
 use Rattle.rules.specs.Domains.{with_context, Fields}
 use Rattle.unit.specs.declared.fields.PageFields.{PageFields}
 use Rattle.unit.specs.declared.reader.Row as code

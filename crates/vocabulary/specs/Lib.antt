@@ -1,2 +1,3 @@
 pub mod Accesses
+pub mod Parameters
 pub mod Refusals

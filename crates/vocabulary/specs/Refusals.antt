@@ -1,5 +1,7 @@
 -- What a refusal says: the number of the question, the layer that refuses, and the place.
 use Rattle.std.specs.Prelude.{ℕ}
+use Rattle.vocabulary.specs.declared.refusal.Layer.{Layer}
+use Rattle.vocabulary.specs.declared.refusal.Layer.TheVariants.{Reader, Table, Unit as ProtectionUnit, Turn}
 use Rattle.vocabulary.specs.declared.refusal.Refusal.{Refusal}
 use Rattle.vocabulary.specs.declared.refusal.Refusal.TheVariants.{TableLength, BadRow, RowOrder, NoSuchSlot, SlotTaken, DomainCount, HighHalf, Repeat, SlotFree, NotFound, NotOwn, NoSuchPlace, NotMaster, NoSuchContext, NotHeld, NoSuchAddress, NotPermitted, TooManyAccesses, ShortBuffer}
 
@@ -7,6 +9,12 @@ pub record Reason : Type 0 where
   pub number : ℕ
   pub layer : ℕ
   pub place : ℕ
+
+abbrev pub layer_number : Layer → ℕ
+layer_number Reader = 1
+layer_number Table = 2
+layer_number ProtectionUnit = 3
+layer_number Turn = 4
 
 -- refused by each layer: the number, and the place
 abbrev pub by_reader : ℕ → ℕ → Reason

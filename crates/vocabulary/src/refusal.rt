@@ -1,9 +1,31 @@
 ghost use Rattle.std.specs.Prelude.{◌≡◌};
-ghost use Rattle.vocabulary.specs.Refusals.{reason};
+ghost use Rattle.vocabulary.specs.Refusals.{layer_number, reason};
+
+/// A layer of the guard.
+#[derive(Clone, Copy, Debug, PartialEq, Eq)]
+pub enum Layer {
+    /// The reader of the boot table.
+    Reader = 1,
+    /// The slot table.
+    Table,
+    /// The protection unit.
+    Unit,
+    /// The turn of an app.
+    Turn,
+}
+
+impl From<Layer> for u8 {
+    ghost from_gives = { λ layer number. number ≡ layer_number layer };
+
+    /// The number of the layer, from 1 to 4.
+    fn from(layer: Layer) -> u8 {
+        layer as u8
+    }
+}
 
 /// Why a call is refused: a case for each question that can be answered "no".
 /// A case has a place where the place can be other than 0.
-#[derive(Clone, Copy)]
+#[derive(Clone, Copy, Debug, PartialEq, Eq)]
 pub enum Refusal {
     /// The boot table's length is no multiple of 4, or above 1,024.
     TableLength,
@@ -73,15 +95,15 @@ impl Refusal {
         }
     }
 
-    /// The layer that refuses: 1 reader, 2 table, 3 unit, 4 turn.
-    pub fn layer(&self) -> u8
-        ensures { result ≡ (reason self.now).layer }
+    /// The layer that refuses.
+    pub fn layer(&self) -> Layer
+        ensures { layer_number result ≡ (reason self.now).layer }
     {
         match self.number() {
-            1..=3 => 1,
-            4..=15 => 2,
-            16..=17 => 3,
-            _ => 4,
+            1..=3 => Layer::Reader,
+            4..=15 => Layer::Table,
+            16..=17 => Layer::Unit,
+            _ => Layer::Turn,
         }
     }
 
@@ -89,13 +111,13 @@ impl Refusal {
     pub fn place(&self) -> usize
         ensures { result ≡ (reason self.now).place }
     {
-        match self {
-            Refusal::BadRow(row) => *row,
-            Refusal::RowOrder(row) => *row,
-            Refusal::Repeat(place) => *place,
-            Refusal::NotHeld(place) => *place,
-            Refusal::NoSuchAddress(index) => *index,
-            Refusal::NotPermitted(index) => *index,
+        match *self {
+            Refusal::BadRow(place)
+            | Refusal::RowOrder(place)
+            | Refusal::Repeat(place)
+            | Refusal::NotHeld(place)
+            | Refusal::NoSuchAddress(place)
+            | Refusal::NotPermitted(place) => place,
             _ => 0,
         }
     }
