@@ -3,7 +3,7 @@ use Rattle.std.proofs.Common.{◌≡◌, ℕ, ◌+◌, ◌*◌, ◌/◌, ◌%◌
 use lib.Bits.{bit_or, bit_xor, or_shifted, xor_block, xor_mod, xor_shr, xor_zero_r}
 use lib.Pow.{field, mod-mod-pow, split}
 use Rattle.ciphers.specs.Present.{s_box, turned, boxed, update}
-use Rattle.ciphers.specs.Parts.{Held, boxed_top, change}
+use Rattle.ciphers.specs.Parts.{boxed_top, change}
 use Rattle.ciphers.proofs.Tables.{agree}
 
 -- the change of the highest nibble makes the S-box of it
@@ -16,6 +16,17 @@ changed_top u h =
     ap₂ bit_xor (sym (split u 60)) (sym (add-zero (change n)))
     ∙ xor_block 60 n (bit_xor (s_box n) n) r 0 less (pow_pos 60)
     ∙ ap₂ (λ (x y : ℕ). x * 2 ^ 60 + y) (agree (λ n. bit_xor n (bit_xor (s_box n) n)) s_box 16 tt n few) (xor_zero_r r)
+
+-- the key register k in its two numbers
+abbrev Held : ℕ → ℕ → ℕ → Type 0
+Held k upper lower = (upper ≡ k / 2 ^ 16) × (lower % 2 ^ 19 ≡ k % 2 ^ 19)
+
+-- two numbers that agree where both have bits are some register's
+of_two : (u l : ℕ) → l / 2 ^ 16 % 2 ^ 3 ≡ u % 2 ^ 3 → Held (u * 2 ^ 16 + l % 2 ^ 16) u l
+of_two u l e = (omega arith, omega arith)
+
+in_two_numbers : (k u l : ℕ) → Held k u l → (u * 2 ^ 16 + l % 2 ^ 16 ≡ k) × (l / 2 ^ 16 % 2 ^ 3 ≡ u % 2 ^ 3)
+in_two_numbers k u l h = (omega (arith, h.0, h.1), omega (arith, h.0, h.1))
 
 -- a shift out of 64 or 80 bits leaves the 19 lowest
 out_64 : (x : ℕ) → (x * 2 ^ 45) % 2 ^ 64 ≡ x % 2 ^ 19 * 2 ^ 45
@@ -52,10 +63,10 @@ boxed_lower k =
     let rest : k % 2 ^ 76 % 2 ^ 19 ≡ k % 2 ^ 19 = mod-mod-pow k 57 19 in
     omega arith
 
-pub advanced : (k u l t i : ℕ) → u < 2 ^ 64 → i < 32 → t ≡ boxed_top (bit_or ((l * 2 ^ 45) % 2 ^ 64) (u / 2 ^ 19)) → Held k u l
+updated : (k u l t i : ℕ) → u < 2 ^ 64 → i < 32 → t ≡ boxed_top (bit_or ((l * 2 ^ 45) % 2 ^ 64) (u / 2 ^ 19)) → Held k u l
     → Held (update i k) (bit_xor t (i / 2)) (bit_xor (u / 2 ^ 3) ((i * 2 ^ 15) % 2 ^ 64))
 unfolding update
-advanced k u l t i h few e held =
+updated k u l t i h few e held =
     let half : i * 2 ^ 15 / 2 ^ 16 ≡ i / 2 = omega arith in
     let kept : (i * 2 ^ 15) % 2 ^ 64 ≡ i * 2 ^ 15 = omega arith in (
       ap₂ bit_xor (e ∙ ap boxed_top (turned_upper k u l h held) ∙ sym (boxed_upper (turned k))) (sym half)
@@ -64,3 +75,10 @@ advanced k u l t i h few e held =
           ∙ ap (λ (x : ℕ). bit_xor x (i * 2 ^ 15 % 2 ^ 19)) (turned_lower k u held.0 ∙ sym (boxed_lower (turned k)))
           ∙ sym (xor_mod (boxed (turned k)) (i * 2 ^ 15) 19),
     )
+
+-- the register's two numbers after a round
+pub advanced : (u l t i : ℕ) → l / 2 ^ 16 % 2 ^ 3 ≡ u % 2 ^ 3 → u < 2 ^ 64 → i < 32 → t ≡ boxed_top (bit_or ((l * 2 ^ 45) % 2 ^ 64) (u / 2 ^ 19))
+    → (bit_xor t (i / 2) * 2 ^ 16 + bit_xor (u / 2 ^ 3) ((i * 2 ^ 15) % 2 ^ 64) % 2 ^ 16 ≡ update i (u * 2 ^ 16 + l % 2 ^ 16))
+    × (bit_xor (u / 2 ^ 3) ((i * 2 ^ 15) % 2 ^ 64) / 2 ^ 16 % 2 ^ 3 ≡ bit_xor t (i / 2) % 2 ^ 3)
+advanced u l t i agree h few e =
+    in_two_numbers _ _ _ (updated (u * 2 ^ 16 + l % 2 ^ 16) u l t i h few e (of_two u l agree))

@@ -1,7 +1,5 @@
--- One turn of the loop of Speck against the definitions, and two words put together.
-use Rattle.std.proofs.Common.{◌≡◌, ℕ, ◌+◌, ◌*◌, ◌%◌, ◌^◌, ◌<◌, sym, ap, ◌∙◌, add-one, lit≤}
-use Rattle.std.proofs.lemmas.Nat.{or_shifted, shl_whole}
-use lib.Bits.{bit_or}
+-- One turn of the loop of Speck against the definitions.
+use Rattle.std.proofs.Common.{◌≡◌, ℕ, ◌+◌, sym, ap, ◌∙◌, add-one}
 use Rattle.ciphers.specs.Speck.{Keys, Words, round, next, schedule, rounds, words, number, encrypted}
 
 pub schedule_more : (key now : Keys) (i : ℕ) (r : Words) → now ≡ schedule key i → r ≡ round i (now.l0, now.k)
@@ -16,9 +14,6 @@ pub rounds_more : (key now : Keys) (b s r : Words) (i : ℕ) → now ≡ schedul
 unfolding rounds
 rounds_more key now b s r i e f h =
     h ∙ ap (λ (m : Keys). round m.k s) e ∙ ap (round (schedule key i).k) f ∙ ap (rounds key b) (sym (add-one i))
-
-pub join_words : (u l : ℕ) → u < 2 ^ 32 → l < 2 ^ 32 → bit_or ((u * 2 ^ 32) % 2 ^ 64) l ≡ u * 2 ^ 32 + l
-join_words u l hu hl = ap (λ (n : ℕ). bit_or n l) (shl_whole u 32 32 64 hu (lit≤ tt)) ∙ or_shifted u 32 l hl
 
 -- the key of two pairs of words
 abbrev pub key : Words → Words → Keys

@@ -42,3 +42,9 @@ table_at g (suc n) [] t k h = absurd t
 table_at g (suc n) (x ∷ xs) t zero h = eqb→eq x (g 0) (both_left (eqb x (g 0)) (holds (λ i. g (suc i)) n xs) t)
 table_at g (suc n) (x ∷ xs) t (suc k) h =
     table_at (λ i. g (suc i)) n xs (both_right (eqb x (g 0)) (holds (λ i. g (suc i)) n xs) t) k (le_of_suc-le-suc h)
+
+-- a fact of both tables of two
+pub in_two : (P : ℕ → Type 0) → P 0 → P 1 → (i : ℕ) → i < 2 → P i
+in_two P first second zero h = first
+in_two P first second (suc zero) h = second
+in_two P first second (suc (suc i)) h = absurd (not-suc-le-zero (le_of_suc-le-suc (le_of_suc-le-suc h)))

@@ -1,12 +1,12 @@
--- The one-way functions: the password encrypted under the parameter, xor the password.
-use Rattle.std.specs.Prelude.{◌-◌, ◌^◌, bit_xor}
-use Rattle.one_way.specs.OneWay.{Meaning}
+-- The one-way functions of the two ciphers.
+use Rattle.std.specs.Prelude.{◌-◌, ◌^◌}
+use Rattle.one_way.specs.OneWay.{Meaning, feed_forward}
 use Rattle.ciphers.specs.Speck as Speck
 use Rattle.ciphers.specs.Present as Present
 
 abbrev pub speck : Meaning
-speck = record { H = λ p w. bit_xor (Speck.encrypted (Speck.key_of p) w) w; greatest = 2 ^ 64 - 1 }
+speck = feed_forward (λ p. Speck.encrypted (Speck.key_of p)) (2 ^ 64 - 1)
 
 -- a key of 80 bits: of the high half 16 bits are left
 abbrev pub present : Meaning
-present = record { H = λ p w. bit_xor (Present.encrypted (Present.key_of p) w) w; greatest = 65535 }
+present = feed_forward (λ p. Present.encrypted (Present.key_of p)) 65535

@@ -1,5 +1,5 @@
--- What the code of PRESENT has in its tables and in its key register.
-use Rattle.std.specs.Prelude.{◌≡◌, ℕ, ◌+◌, ◌*◌, ◌/◌, ◌%◌, ◌^◌, bit_xor}
+-- What the code of PRESENT has in its tables.
+use Rattle.std.specs.Prelude.{ℕ, ◌+◌, ◌*◌, ◌/◌, ◌%◌, ◌^◌, bit_xor}
 use Rattle.ciphers.specs.Present.{s_box}
 
 -- the bits of a nibble, 16 places apart
@@ -21,7 +21,3 @@ boxed_top u = s_box (u / 2 ^ 60) * 2 ^ 60 + u % 2 ^ 60
 -- what that changes, where the nibble is n
 abbrev pub change : ℕ → ℕ
 change n = bit_xor (s_box n) n * 2 ^ 60
-
--- the key register k in two numbers: bits 79 to 16, and a number with the same 19 lowest bits
-abbrev pub Held : ℕ → ℕ → ℕ → Type 0
-Held k upper lower = (upper ≡ k / 2 ^ 16) × (lower % 2 ^ 19 ≡ k % 2 ^ 19)

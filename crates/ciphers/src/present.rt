@@ -1,11 +1,11 @@
 //! PRESENT-80 (ISO/IEC 29192-2): a block of 64 bits, a key of 80, 31 rounds.
-ghost use Rattle.std.specs.Prelude.{◌≡◌, ℕ, ◌<◌};
-ghost use Rattle.ciphers.specs.Functions.{present};
-ghost use Rattle.ciphers.specs.Parts.{Held, boxed_top, change as change_of};
+ghost use Rattle.std.specs.Prelude.{◌≡◌, ◌/◌, ◌^◌, ◌<◌};
+ghost use Rattle.ciphers.specs.Parts.{boxed_top, change as change_of};
 ghost use Rattle.ciphers.specs.Present.{encrypted, key_of, p_layer, s_box_layer, update};
 
 use crate::patterns::column;
-use one_way::OneWay;
+use one_way::block_cipher::BlockCipher;
+use std::marker::Model;
 use vocabulary::parameter::Parameter;
 
 const ROUNDS: u64 = 31;
@@ -30,37 +30,27 @@ const CHANGES: [u64; 16] = [
     0xd000_0000_0000_0000,
 ];
 
-/// PRESENT-80 as a one-way function: the password encrypted under the parameter, XOR the password.
-/// Every parameter has an answer, but those that are admitted fit the key of 80 bits.
-#[derive(Clone, Copy)]
+/// PRESENT-80. The key's bits 79 to 64 are the low 16 bits of the parameter's high half, its bits 63 to 0 the low half.
+#[derive(Clone, Copy, Debug)]
 pub struct Present;
 
-impl OneWay for Present {
-    const GREATEST_HIGH: u64 = 65_535;
+impl BlockCipher for Present {
+    const GREATEST_KEY: u64 = 65_535;
 
-    ghost meaning = { present };
+    ghost GREATEST_KEY = { 65535 };
 
-    fn high_limit() -> u64 {
-        Self::GREATEST_HIGH
+    ghost encrypted = { λ p. encrypted (key_of p) };
+
+    fn encrypt(parameter: Parameter, block: u64) -> u64 {
+        let mut key = Register::from(parameter);
+        let mut state = block ^ key.round_key();
+        // The number is that of the round, and indexes nothing.
+        for i in 0..ROUNDS {
+            key = key.update(i + 1);
+            state = layer(state) ^ key.round_key();
+        }
+        state
     }
-
-    fn step(&self, parameter: Parameter, password: u64) -> u64 {
-        encrypt(parameter, password) ^ password
-    }
-}
-
-/// The block encrypted under the parameter: the key is the low 16 bits of its high half, and its
-/// low half.
-pub fn encrypt(parameter: Parameter, block: u64) -> u64
-    ensures { result ≡ encrypted (key_of parameter) block }
-{
-    let mut key = load(parameter);
-    let mut state = block ^ key.upper;
-    for i in 0..ROUNDS {
-        key = advance(key, i + 1);
-        state = layer(state) ^ key.upper;
-    }
-    state
 }
 
 // The S-box layer and then the permutation.
@@ -73,33 +63,53 @@ fn layer(state: u64) -> u64
         + (column(state >> 24) << 6)
 }
 
-// The key register: its bits 79 to 16, which are the round key, and a number that has the same
-// lowest 19 bits; its other bits mean nothing.
-#[derive(Clone, Copy)]
+// The key register of 80 bits: its bits 79 to 16, and a number that has its lowest 19 bits; the bits above mean nothing.
+#[derive(Drop)]
 struct Register {
     upper: u64,
     lower: u64,
 }
 
-// The register of the first round.
-fn load(parameter: Parameter) -> Register
-    ensures { Held (key_of parameter) result.upper result.lower }
-{
-    Register {
-        upper: (parameter.high & 0xffff) << 48 | parameter.low >> 16,
-        lower: parameter.low,
+impl Model for Register {
+    ghost use Rattle.std.specs.Prelude.{◌≡◌, ℕ, ◌+◌, ◌*◌, ◌/◌, ◌%◌, ◌^◌};
+
+    ghost Value = { ℕ };
+
+    ghost view = { λ k. k.upper * 2 ^ 16 + k.lower % 2 ^ 16 };
+
+    // Bits 18 to 16 lie in both.
+    ghost invariant = { λ k. k.lower / 2 ^ 16 % 2 ^ 3 ≡ k.upper % 2 ^ 3 };
+}
+
+impl From<Parameter> for Register {
+    ghost from_gives = { λ p k. k ≡ key_of p };
+
+    fn from(parameter: Parameter) -> Register {
+        Register {
+            upper: (parameter.high & 0xffff) << 48 | parameter.low >> 16,
+            lower: parameter.low,
+        }
     }
 }
 
-// The register after the round of this number.
-fn advance(key: Register, round: u64) -> Register
-    requires { round < 32 }
-    ensures { (k : ℕ) → Held k key.upper key.lower → Held (update round k) result.upper result.lower }
-{
-    let turned = key.lower << 45 | key.upper >> 19;
-    Register {
-        upper: substitute_top(turned) ^ (round >> 1),
-        lower: (key.upper >> 3) ^ (round << 15),
+impl Register {
+    // The round key: bits 79 to 16.
+    fn round_key(&self) -> u64
+        ensures { result ≡ self.now / 2 ^ 16 }
+    {
+        self.upper
+    }
+
+    // The register after the round of this number.
+    fn update(&self, round: u64) -> Register
+        requires { round < 32 }
+        ensures { result ≡ update round self.now }
+    {
+        let turned = self.lower << 45 | self.upper >> 19;
+        Register {
+            upper: substitute_top(turned) ^ (round >> 1),
+            lower: (self.upper >> 3) ^ (round << 15),
+        }
     }
 }
 
@@ -115,5 +125,5 @@ fn change(nibble: u8) -> u64
     requires { nibble < 16 }
     ensures { result ≡ change_of nibble }
 {
-    CHANGES[nibble as usize]
+    CHANGES[usize::from(nibble)]
 }

@@ -13,6 +13,7 @@ pub fn chain<F: OneWay>(function: &F, parameter: Parameter, master: u64, length:
         return passwords;
     }
     passwords[0] = master;
+    // By index: each password comes from the one before, which no iterator over the array hands out beside it.
     for i in 1..length.min(8) {
         passwords[i] = function.step(parameter, passwords[i - 1]);
     }

@@ -1,9 +1,0 @@
-use Rattle.std.proofs.Common.{◌*◌, ◌^◌, ◌<◌, arith}
-use Rattle.ciphers.specs.Parts.{pattern}
-use Rattle.ciphers.proofs.Tables.{table_at}
-use Rattle.ciphers.proofs.patterns.byte_4.Goals as goal
-
-pub returns : goal.returns
-returns c =
-    let h : c.args.byte < 256 = omega arith in
-    search (table_at (λ v. pattern v * 2 ^ 8) 256)
