@@ -1,13 +1,16 @@
 -- The console of the code, as the rules see it, and what a call's contract says.
-use Rattle.std.specs.Prelude.{◌≡◌, ℕ, List, Some, None, Ok, Err, Result}
-use Rattle.vocabulary.specs.declared.refusal.Refusal.{Refusal}
+use Rattle.std.specs.Prelude.{◌≡◌, ℕ, List, Some, None, Ok, Err, Option, Result}
 use Rattle.vocabulary.specs.Refusals.{reason}
-use Rattle.one_way.specs.OneWay.{Meaning}
-use Rattle.memory.specs.Pages.{Pages, Effect}
+use Rattle.one_way.specs.declared.OneWay.{Ghosts as Function}
+use Rattle.memory.specs.declared.Memory.{Ghosts as Memory}
 use Rattle.rules.specs.Console as rules
 use Rattle.rules.specs.Console.{Machine, holding, Call, Answer, refused, accepted, done, answer_of, after}
 use Rattle.rules.specs.Calls.{rule}
 use Rattle.table.specs.Model.{slots_of}
+use Rattle.table.specs.declared.slot.SlotTable.{SlotTable}
+use Rattle.unit.specs.declared.fields.PageFields.{PageFields}
+use Rattle.guard.specs.declared.inspection.Inspection.{Inspection}
+use Rattle.guard.specs.declared.refused.Refused.{Refused}
 use Rattle.guard.specs.declared.state.Console.{Console}
 use Rattle.guard.specs.declared.state.Turn.{Turn}
 use Rattle.rules.specs.Domains.{Fields}
@@ -26,50 +29,50 @@ pub record Obeys (before : View) (call : Call) (answer : Answer) (after_it : Vie
   pub leaves : after_it.console ≡ after before.console (rule before.machine before.console call)
   pub keeps : after_it.machine ≡ before.machine
 
-module _ {F M : Type 0} (way : Meaning) (pages : M → Pages) (effect : M → Effect) where
-  -- between turns
-  abbrev pub between : Console F M → View
-  between c =
-      record {
-        machine = record { way = way; effect = effect c.memory; field = fields_of c.fields.now };
-        console = record { slots = slots_of c.slots.now; register = holding 0; turn_of = None; pages = (pages c.memory).page };
-      }
-
-  -- in a turn
-  abbrev pub during : Turn F M → View
-  during t =
-      record {
-        machine = record { way = way; effect = effect t.memory; field = fields_of t.fields.now };
-        console = record { slots = slots_of t.slots.now; register = holding t.register; turn_of = Some t.slot; pages = (pages t.memory).page };
-      }
-
-  -- a turn that was opened, or the console that was given back
-  abbrev pub opened : Result (Turn F M) (Console F M × Refusal) → View
-  opened (Ok t) = during t
-  opened (Err x) = between x.0
-
-abbrev pub told_opened : {F M : Type 0} → Result (Turn F M) (Console F M × Refusal) → Answer
-told_opened (Ok t) = accepted done
-told_opened (Err x) = refused (reason x.1)
-
 -- the fields that a boot table sets, where it is read
 abbrev pub fields_in : Booting → Fields
 fields_in (table_refused f) = λ x q. 0
 fields_in (table_read ws) = field_of_rows ws
 
-abbrev pub boot_answer : Booting → Answer
-boot_answer (table_refused f) = refused f
-boot_answer (table_read ws) = accepted done
+module _ {F M : Type 0} (function : Function F) (memory : Memory M) where
+  -- a console with these fields and slots, this register, the slot whose turn it is, if any, and this memory
+  abbrev pub seen : PageFields → SlotTable → ℕ → Option ℕ → M → View
+  seen fields slots register running m =
+      record {
+        machine = record { way = function.meaning; effect = memory.effect m; field = fields_of fields };
+        console = record { slots = slots_of slots; register = holding register; turn_of = running; pages = (memory.pages m).page };
+      }
 
--- the setting of a console that boots with this function, this memory and this table
-module _ {M : Type 0} (way : Meaning) (pages : M → Pages) (effect : M → Effect) where
+  -- between turns
+  abbrev pub between : Console F M → View
+  between c = seen c.fields.now c.slots.now 0 None c.memory
+
+  -- in a turn
+  abbrev pub during : Turn F M → View
+  during t = seen t.fields.now t.slots.now t.register (Some t.slot) t.memory
+
+  -- what the executive looks at
+  abbrev pub inspected : Inspection M → View
+  inspected x = seen x.fields.now x.slots.now x.register x.running x.memory.now
+
+  -- a turn that was opened, or the console that was given back
+  abbrev pub opened : Result (Turn F M) (Refused (Console F M)) → View
+  opened (Ok t) = during t
+  opened (Err x) = between x.given_back
+
+  -- the setting of a console that boots with this function, this table and this memory
   abbrev pub setting : List ℕ → M → Setting
   setting table m =
       record {
-        machine = record { way = way; effect = effect m; field = fields_in (boot_rule table) };
-        boot_page = (pages m).page;
+        machine = record { way = function.meaning; effect = memory.effect m; field = fields_in (boot_rule table) };
+        boot_page = (memory.pages m).page;
       }
 
-abbrev pub told_booted : {F M : Type 0} → Result (Console F M) (F × M × Refusal) → Answer
-told_booted (Ok c) = accepted done
-told_booted (Err x) = refused (reason x.2)
+-- the answer of a call that gives back what it was given where it is refused
+abbrev pub told_opening : {A B : Type 0} → Result A (Refused B) → Answer
+told_opening (Ok a) = accepted done
+told_opening (Err x) = refused (reason x.refusal)
+
+abbrev pub boot_answer : Booting → Answer
+boot_answer (table_refused f) = refused f
+boot_answer (table_read ws) = accepted done

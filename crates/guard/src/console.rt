@@ -5,8 +5,9 @@ ghost use Rattle.std.specs.Prelude.{◌≡◌, MatchResult};
 ghost use Rattle.rules.specs.Boot.{boot_rule};
 ghost use Rattle.rules.specs.Isolation.{Isolated};
 ghost use Rattle.rules.specs.Runs.{booted};
-ghost use Rattle.guard.specs.Model.{Obeys, between, during, opened, told_opened, told_booted, boot_answer, setting};
+ghost use Rattle.guard.specs.Model.{Obeys, between, during, opened, told_opening, boot_answer, setting};
 
+use crate::refused::Refused;
 use crate::state::{Console, Tables, Turn};
 use memory::Memory;
 use one_way::OneWay;
@@ -23,10 +24,10 @@ impl<'a, F: OneWay, M: Memory> Console<'a, F, M> {
         table: &[u8],
         function: F,
         memory: M,
-    ) -> Result<Console<'a, F, M>, (F, M, Refusal)>
-        ensures answer { told_booted result ≡ boot_answer (boot_rule table.now) }
-        ensures state { MatchResult result (λ c. between F.OneWay.meaning M.Memory.pages M.Memory.effect c ≡ record { machine = (setting F.OneWay.meaning M.Memory.pages M.Memory.effect table.now memory).machine; console = booted (setting F.OneWay.meaning M.Memory.pages M.Memory.effect table.now memory) }) (λ x. (x.0 ≡ function) × (x.1 ≡ memory)) }
-        ensures isolated { Isolated (setting F.OneWay.meaning M.Memory.pages M.Memory.effect table.now memory) }
+    ) -> Result<Console<'a, F, M>, Refused<(F, M)>>
+        ensures answer { told_opening result ≡ boot_answer (boot_rule table.now) }
+        ensures state { MatchResult result (λ c. between F.OneWay M.Memory c ≡ record { machine = (setting F.OneWay M.Memory table.now memory).machine; console = booted (setting F.OneWay M.Memory table.now memory) }) (λ x. x.given_back ≡ (function, memory)) }
+        ensures isolated { Isolated (setting F.OneWay M.Memory table.now memory) }
     {
         match read_table(table) {
             Ok(fields) => {
@@ -39,7 +40,10 @@ impl<'a, F: OneWay, M: Memory> Console<'a, F, M> {
                     slots: &mut tables.slots,
                 })
             }
-            Err(refusal) => Err((function, memory, refusal)),
+            Err(refusal) => Err(Refused {
+                refusal,
+                given_back: (function, memory),
+            }),
         }
     }
 
@@ -51,7 +55,7 @@ impl<'a, F: OneWay, M: Memory> Console<'a, F, M> {
         master: u64,
         domains: &[u16],
     ) -> Result<(), Refusal>
-        ensures { Obeys (between F.OneWay.meaning M.Memory.pages M.Memory.effect self.old) (exec (rules.create slot parameter master domains.now)) (told (λ _. done) result) (between F.OneWay.meaning M.Memory.pages M.Memory.effect self.new) }
+        ensures { Obeys (between F.OneWay M.Memory self.old) (exec (rules.create slot parameter master domains.now)) (told (λ _. done) result) (between F.OneWay M.Memory self.new) }
     {
         self.slots
             .create(&self.function, slot, parameter, master, domains)
@@ -59,14 +63,14 @@ impl<'a, F: OneWay, M: Memory> Console<'a, F, M> {
 
     /// Ends the app in a slot, and frees the slot.
     pub fn end(&mut self, slot: usize) -> Result<(), Refusal>
-        ensures { Obeys (between F.OneWay.meaning M.Memory.pages M.Memory.effect self.old) (exec (rules.end slot)) (told (λ _. done) result) (between F.OneWay.meaning M.Memory.pages M.Memory.effect self.new) }
+        ensures { Obeys (between F.OneWay M.Memory self.old) (exec (rules.end slot)) (told (λ _. done) result) (between F.OneWay M.Memory self.new) }
     {
         self.slots.end(slot)
     }
 
     /// Opens the turn of the app in a slot. A refusal gives the console back.
-    pub fn turn(self, slot: usize) -> Result<Turn<'a, F, M>, (Console<'a, F, M>, Refusal)>
-        ensures { Obeys (between F.OneWay.meaning M.Memory.pages M.Memory.effect self.entry) (exec (rules.turn slot)) (told_opened result) (opened F.OneWay.meaning M.Memory.pages M.Memory.effect result) }
+    pub fn turn(self, slot: usize) -> Result<Turn<'a, F, M>, Refused<Console<'a, F, M>>>
+        ensures { Obeys (between F.OneWay M.Memory self.entry) (exec (rules.turn slot)) (told_opening result) (opened F.OneWay M.Memory result) }
     {
         match self.slots.saved(slot) {
             Ok(register) => {
@@ -85,7 +89,10 @@ impl<'a, F: OneWay, M: Memory> Console<'a, F, M> {
                     register,
                 })
             }
-            Err(refusal) => Err((self, refusal)),
+            Err(refusal) => Err(Refused {
+                refusal,
+                given_back: self,
+            }),
         }
     }
 }

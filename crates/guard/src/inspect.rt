@@ -1,6 +1,5 @@
 ghost use Rattle.std.specs.Prelude.{◌≡◌};
-ghost use Rattle.guard.specs.Inspections.{inspected};
-ghost use Rattle.guard.specs.Model.{between, during};
+ghost use Rattle.guard.specs.Model.{between, during, inspected};
 
 use crate::inspection::Inspection;
 use crate::state::{Console, Turn};
@@ -10,7 +9,7 @@ use one_way::OneWay;
 impl<'a, F: OneWay, M: Memory> Console<'a, F, M> {
     /// Looks at the console between turns: its register is 0, and no slot's turn is open.
     pub fn inspect(&self) -> Inspection<'_, M>
-        ensures { inspected F.OneWay.meaning M.Memory.pages M.Memory.effect result ≡ between F.OneWay.meaning M.Memory.pages M.Memory.effect self.now }
+        ensures { inspected F.OneWay M.Memory result ≡ between F.OneWay M.Memory self.now }
     {
         Inspection {
             fields: self.fields,
@@ -25,7 +24,7 @@ impl<'a, F: OneWay, M: Memory> Console<'a, F, M> {
 impl<'a, F: OneWay, M: Memory> Turn<'a, F, M> {
     /// Looks at the console in a turn.
     pub fn inspect(&self) -> Inspection<'_, M>
-        ensures { inspected F.OneWay.meaning M.Memory.pages M.Memory.effect result ≡ during F.OneWay.meaning M.Memory.pages M.Memory.effect self.now }
+        ensures { inspected F.OneWay M.Memory result ≡ during F.OneWay M.Memory self.now }
     {
         Inspection {
             fields: self.fields,

@@ -4,5 +4,6 @@
 pub mod console;
 mod inspect;
 pub mod inspection;
+pub mod refused;
 pub mod state;
 pub mod turn;

@@ -4,7 +4,7 @@ ghost use Rattle.rules.specs.Told.{told};
 ghost use Rattle.vocabulary.specs.declared.access.Access.TheVariants.{Read, Write, Fetch};
 ghost use Rattle.rules.specs.Calls.{buffer_after};
 ghost use Rattle.unit.specs.Visits.{visit_reply};
-ghost use Rattle.guard.specs.Model.{Obeys, between, during, opened, told_opened};
+ghost use Rattle.guard.specs.Model.{Obeys, between, during};
 ghost use Rattle.std.specs.Prelude.{◌≡◌};
 
 use crate::state::{Console, Turn};
@@ -18,7 +18,7 @@ use vocabulary::refusal::Refusal;
 impl<'a, F: OneWay, M: Memory> Turn<'a, F, M> {
     /// Ends the turn: the register is saved.
     pub fn close(self) -> Console<'a, F, M>
-        ensures { Obeys (during F.OneWay.meaning M.Memory.pages M.Memory.effect self.entry) (exec rules.close) (accepted done) (between F.OneWay.meaning M.Memory.pages M.Memory.effect result) }
+        ensures { Obeys (during F.OneWay M.Memory self.entry) (exec rules.close) (accepted done) (between F.OneWay M.Memory result) }
     {
         let Turn {
             function,
@@ -39,7 +39,7 @@ impl<'a, F: OneWay, M: Memory> Turn<'a, F, M> {
 
     /// Loads the domain that the password opens, and answers it.
     pub fn activate(&mut self, password: u64) -> Result<u16, Refusal>
-        ensures { Obeys (during F.OneWay.meaning M.Memory.pages M.Memory.effect self.old) (app (rules.activate password)) (told value result) (during F.OneWay.meaning M.Memory.pages M.Memory.effect self.new) }
+        ensures { Obeys (during F.OneWay M.Memory self.old) (app (rules.activate password)) (told value result) (during F.OneWay M.Memory self.new) }
     {
         let opened = self.slots.find(self.slot, password)?;
         self.register = opened.domain;
@@ -48,28 +48,28 @@ impl<'a, F: OneWay, M: Memory> Turn<'a, F, M> {
 
     /// Adds a context to the domain at a place of the app's chain, and answers that domain.
     pub fn grant(&mut self, master: u64, place: usize, context: usize) -> Result<u16, Refusal>
-        ensures { Obeys (during F.OneWay.meaning M.Memory.pages M.Memory.effect self.old) (app (rules.grant master place context)) (told value result) (during F.OneWay.meaning M.Memory.pages M.Memory.effect self.new) }
+        ensures { Obeys (during F.OneWay M.Memory self.old) (app (rules.grant master place context)) (told value result) (during F.OneWay M.Memory self.new) }
     {
         self.slots.grant(self.slot, master, place, context)
     }
 
     /// Removes a context likewise.
     pub fn revoke(&mut self, master: u64, place: usize, context: usize) -> Result<u16, Refusal>
-        ensures { Obeys (during F.OneWay.meaning M.Memory.pages M.Memory.effect self.old) (app (rules.revoke master place context)) (told value result) (during F.OneWay.meaning M.Memory.pages M.Memory.effect self.new) }
+        ensures { Obeys (during F.OneWay M.Memory self.old) (app (rules.revoke master place context)) (told value result) (during F.OneWay M.Memory self.new) }
     {
         self.slots.revoke(self.slot, master, place, context)
     }
 
     /// Answers the password `n` places after this one in the app's own chain.
     pub fn derive(&mut self, password: u64, n: usize) -> Result<u64, Refusal>
-        ensures { Obeys (during F.OneWay.meaning M.Memory.pages M.Memory.effect self.old) (app (rules.derive password n)) (told value result) (during F.OneWay.meaning M.Memory.pages M.Memory.effect self.new) }
+        ensures { Obeys (during F.OneWay M.Memory self.old) (app (rules.derive password n)) (told value result) (during F.OneWay M.Memory self.new) }
     {
         self.slots.derive(self.slot, password, n)
     }
 
     /// Gives the app a new parameter and its chain. Domains and registers keep their values.
     pub fn rekey(&mut self, master: u64, parameter: Parameter) -> Result<(), Refusal>
-        ensures { Obeys (during F.OneWay.meaning M.Memory.pages M.Memory.effect self.old) (app (rules.rekey master parameter)) (told (λ _. done) result) (during F.OneWay.meaning M.Memory.pages M.Memory.effect self.new) }
+        ensures { Obeys (during F.OneWay M.Memory self.old) (app (rules.rekey master parameter)) (told (λ _. done) result) (during F.OneWay M.Memory self.new) }
     {
         self.slots
             .rekey(&self.function, self.slot, master, parameter)
@@ -77,21 +77,21 @@ impl<'a, F: OneWay, M: Memory> Turn<'a, F, M> {
 
     /// Reads a byte under the domain in the register.
     pub fn read(&mut self, address: usize) -> Result<u8, Refusal>
-        ensures { Obeys (during F.OneWay.meaning M.Memory.pages M.Memory.effect self.old) (app (rules.access (Read address))) (told value result) (during F.OneWay.meaning M.Memory.pages M.Memory.effect self.new) }
+        ensures { Obeys (during F.OneWay M.Memory self.old) (app (rules.access (Read address))) (told value result) (during F.OneWay M.Memory self.new) }
     {
         unit::visit::read(self.fields, self.register, &self.memory, address)
     }
 
     /// Fetches a byte under the domain in the register.
     pub fn fetch(&mut self, address: usize) -> Result<u8, Refusal>
-        ensures { Obeys (during F.OneWay.meaning M.Memory.pages M.Memory.effect self.old) (app (rules.access (Fetch address))) (told value result) (during F.OneWay.meaning M.Memory.pages M.Memory.effect self.new) }
+        ensures { Obeys (during F.OneWay M.Memory self.old) (app (rules.access (Fetch address))) (told value result) (during F.OneWay M.Memory self.new) }
     {
         unit::visit::fetch(self.fields, self.register, &self.memory, address)
     }
 
     /// Writes a byte under the domain in the register.
     pub fn write(&mut self, address: usize, byte: u8) -> Result<(), Refusal>
-        ensures { Obeys (during F.OneWay.meaning M.Memory.pages M.Memory.effect self.old) (app (rules.access (Write address byte))) (told (λ _. done) result) (during F.OneWay.meaning M.Memory.pages M.Memory.effect self.new) }
+        ensures { Obeys (during F.OneWay M.Memory self.old) (app (rules.access (Write address byte))) (told (λ _. done) result) (during F.OneWay M.Memory self.new) }
     {
         unit::visit::write(self.fields, self.register, &mut self.memory, address, byte)
     }
@@ -103,7 +103,7 @@ impl<'a, F: OneWay, M: Memory> Turn<'a, F, M> {
         accesses: &[Access],
         buffer: &mut [u8],
     ) -> Result<Visited, Refusal>
-        ensures obeys { Obeys (during F.OneWay.meaning M.Memory.pages M.Memory.effect self.old) (app (rules.visit password accesses.now buffer.old)) (told (visit_reply buffer.new) result) (during F.OneWay.meaning M.Memory.pages M.Memory.effect self.new) }
+        ensures obeys { Obeys (during F.OneWay M.Memory self.old) (app (rules.visit password accesses.now buffer.old)) (told (visit_reply buffer.new) result) (during F.OneWay M.Memory self.new) }
         ensures buffer { buffer.new ≡ buffer_after buffer.old (told (visit_reply buffer.new) result) }
     {
         if accesses.len() > 64 {

@@ -1,13 +1,12 @@
 -- Calls and outcomes of the code, in the rules' words.
-use Rattle.std.specs.Prelude.{◌≡◌, ℕ, List, [], ◌∷◌, Ok, Err, vec_items, Result}
-use Rattle.vocabulary.specs.declared.refusal.Refusal.{Refusal}
+use Rattle.std.specs.Prelude.{◌≡◌, ℕ, List, [], ◌∷◌, vec_items}
 use Rattle.vocabulary.specs.declared.access.Access.TheVariants.{Read, Write, Fetch}
-use Rattle.vocabulary.specs.Refusals.{reason}
-use Rattle.one_way.specs.OneWay.{Meaning}
-use Rattle.memory.specs.Pages.{Pages, Effect}
+use Rattle.one_way.specs.declared.OneWay.{Ghosts as Function}
+use Rattle.memory.specs.declared.Memory.{Ghosts as Memory}
 use Rattle.rules.specs.Console as rules
 use Rattle.rules.specs.Console.{Setting, exec, app, create, end, turn, close, activate, visit, grant, revoke, derive, rekey, access, Answer, refused, accepted, done, value, out_of_turn, answer_of, after}
 use Rattle.rules.specs.Calls.{rule, buffer_after}
+use Rattle.rules.specs.Told.{told}
 use Rattle.rules.specs.Runs.{Run, state, answer, run_on}
 use Rattle.unit.specs.Visits.{visit_reply}
 use Rattle.guard.specs.Model.{View, between, during}
@@ -15,6 +14,8 @@ use Rattle.replay.specs.declared.call.Call.{Call}
 use Rattle.replay.specs.declared.call.Call.TheVariants as call
 use Rattle.replay.specs.declared.call.Outcome.{Outcome}
 use Rattle.replay.specs.declared.call.Outcome.TheVariants as outcome
+use Rattle.replay.specs.declared.call.Reply.{Reply}
+use Rattle.replay.specs.declared.call.Reply.TheVariants as reply
 use Rattle.replay.specs.declared.stage.Stage.{Stage}
 use Rattle.replay.specs.declared.stage.Stage.TheVariants.{Between, During}
 
@@ -52,19 +53,16 @@ buffer_of (app (access a)) = []
 abbrev pub hears : rules.Call → Answer → Heard
 hears c a = record { answer = a; buffer = buffer_after (buffer_of c) a }
 
--- of a call that has no buffer
-abbrev pub plainly : Answer → Heard
-plainly a = record { answer = a; buffer = buffer_after [] a }
-
 -- by the code
+abbrev pub reply_of : Reply → rules.Reply
+reply_of reply.Done = done
+reply_of (reply.Domain d) = value d
+reply_of (reply.Password w) = value w
+reply_of (reply.Byte b) = value b
+
 abbrev pub heard_of : Outcome → Heard
-heard_of outcome.Done = record { answer = accepted done; buffer = [] }
-heard_of (outcome.Domain d) = record { answer = accepted (value d); buffer = [] }
-heard_of (outcome.Password w) = record { answer = accepted (value w); buffer = [] }
-heard_of (outcome.Byte b) = record { answer = accepted (value b); buffer = [] }
-heard_of (outcome.Visit (Ok v) b) = record { answer = accepted (visit_reply (vec_items b) v); buffer = vec_items b }
-heard_of (outcome.Visit (Err e) b) = record { answer = refused (reason e); buffer = vec_items b }
-heard_of (outcome.Refused e) = record { answer = refused (reason e); buffer = [] }
+heard_of (outcome.Answered r) = record { answer = told reply_of r; buffer = [] }
+heard_of (outcome.Visited r b) = record { answer = told (visit_reply (vec_items b)) r; buffer = vec_items b }
 heard_of (outcome.OutOfTurn c) = record { answer = refused out_of_turn; buffer = buffer_of (call_of c) }
 
 -- what the calls hear, the oldest first, made after the run
@@ -78,10 +76,10 @@ pub record Performed (before : View) (c : rules.Call) (heard : Heard) (after_it 
   pub leaves : after_it.console ≡ after before.console (rule before.machine before.console c)
   pub keeps : after_it.machine ≡ before.machine
 
-module _ {F M : Type 0} (way : Meaning) (pages : M → Pages) (effect : M → Effect) where
+module _ {F M : Type 0} (function : Function F) (memory : Memory M) where
   abbrev pub view : Stage F M → View
-  view (Between c) = between way pages effect c
-  view (During t) = during way pages effect t
+  view (Between c) = between function memory c
+  view (During t) = during function memory t
 
 -- what the rules see after a run
 abbrev pub stood : Setting → Run → View
@@ -91,8 +89,3 @@ stood S r = record { machine = S.machine; console = state S r }
 pub record Ran (S : Setting) (r : Run) (cs : List rules.Call) (heard : List Heard) (left : View) : Type 0 where
   pub hears_all : heard ≡ heard_on S r cs
   pub leaves : left ≡ stood S (run_on r cs)
-
--- what a replay answers of its boot
-abbrev pub told_replayed : {X F M : Type 0} → Result X (F × M × Refusal) → Answer
-told_replayed (Ok x) = accepted done
-told_replayed (Err x) = refused (reason x.2)

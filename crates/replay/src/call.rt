@@ -4,7 +4,7 @@ use vocabulary::parameter::Parameter;
 use vocabulary::refusal::Refusal;
 
 /// A call of the executive, or of the app whose turn it is. A visit brings its buffer.
-#[derive(Drop)]
+#[derive(Debug, Drop)]
 pub enum Call {
     Create {
         slot: usize,
@@ -44,15 +44,19 @@ pub enum Call {
     Fetch(usize),
 }
 
-/// What a call was answered. A visit has its buffer back; a call that the turns do not allow comes back
-/// whole.
-#[derive(Drop)]
-pub enum Outcome {
+/// What an accepted call answers, where it has no buffer.
+#[derive(Clone, Copy, Debug, PartialEq, Eq)]
+pub enum Reply {
     Done,
     Domain(u16),
     Password(u64),
     Byte(u8),
-    Visit(Result<Visited, Refusal>, Vec<u8>),
-    Refused(Refusal),
+}
+
+/// What came of a call. A visit has its buffer back; a call that the turns do not allow comes back whole.
+#[derive(Debug, Drop)]
+pub enum Outcome {
+    Answered(Result<Reply, Refusal>),
+    Visited(Result<Visited, Refusal>, Vec<u8>),
     OutOfTurn(Call),
 }

@@ -12,7 +12,7 @@ use vocabulary::access::Access;
 use vocabulary::refusal::Refusal;
 
 /// How a visit went: the number of accesses made, and the fault that ended it.
-#[derive(Clone, Copy)]
+#[derive(Clone, Copy, Debug, PartialEq, Eq)]
 pub struct Visited {
     pub made: usize,
     pub fault: Option<Refusal>,

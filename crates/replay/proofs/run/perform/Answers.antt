@@ -3,7 +3,7 @@ use Rattle.replay.proofs.run.perform.Goals as goal
 
 -- names no step, so that another call in this one's place leaves the fact open
 pub returns-in-Between : goal.returns-in-Between
-returns-in-Between g c = at_stage g.F.OneWay.meaning g.M.Memory.pages g.M.Memory.effect _ _ c.in-Between.is (assumption c)
+returns-in-Between g c = at_stage g.F.OneWay g.M.Memory _ _ c.in-Between.is (assumption c)
 
 pub returns-in-During : goal.returns-in-During
-returns-in-During g c = at_stage g.F.OneWay.meaning g.M.Memory.pages g.M.Memory.effect _ _ c.in-During.is (assumption c)
+returns-in-During g c = at_stage g.F.OneWay g.M.Memory _ _ c.in-During.is (assumption c)
