@@ -3,9 +3,6 @@ use Rattle.replay.specs.Model.{Ran, call_of, heard_of, view}
 use Rattle.replay.proofs.Runs.{ran_more}
 use Rattle.replay.proofs.run.perform_all.Goals as goal
 
-pub push_reserved-requires : goal.push_reserved-requires
-push_reserved-requires g c = search rules
-
 pub loop-call-preserved : goal.loop-call-preserved
 loop-call-preserved g c = (
   search rules,
