@@ -1,39 +1,35 @@
 -- Pages that are given by their bytes: what is read, and what a write of one byte leaves.
-use Rattle.std.proofs.Common.{◌≡◌, ℕ, ◌+◌, ◌-◌, ◌*◌, ◌<◌, ◌≤◌, true, cond, ◌&&◌, eqb, ltb, List, length, get_or, set, sym, ap, ◌∙◌, inl, inr, arith}
+use Rattle.std.proofs.Common.{◌≡◌, ℕ, ◌+◌, ◌-◌, ◌*◌, ◌<◌, true, cond, eqb, ltb, List, length, get_or, set, sym, ap, ◌∙◌, inl, inr, arith}
 use mathlib.Core.Path.{fun_ext}
 use lib.Bits.{bit_and}
-use Rattle.std.proofs.lemmas.List.FromFn.{get_or-map-range_with_len, length-map-range_with_len}
-use Rattle.std.proofs.lemmas.List.{length-set, get_or_default, get_or_past, get_or-set_same, get_or-set_other, same_lists, set_past}
+use Rattle.std.proofs.lemmas.List.FromFn.{get_or-map-range_with_len}
+use Rattle.std.proofs.lemmas.List.{length-set, get_or_default, get_or-set_same, get_or-set_other, same_lists}
 use Rattle.std.proofs.lemmas.Bool.{cases_Bool, cases_eq, cond-true, cond-false, ltb-true, lt-ltb, eq-eqb, ne_eqb, eqb-false}
 use Rattle.memory.specs.Pages.{blank, page_of, offset_of, put, byte_at, read_at, write_at}
-use Rattle.memory.specs.Kinds.{page_by, pages_by, bytes_byte, bytes_pages, ram_effect, stored, status_byte, status_pages, status_effect, cleared}
+use Rattle.memory.specs.Kinds.{page_by, page_by_whole, pages_by, bytes_byte, bytes_pages, ram_effect, status_byte, status_pages, status_effect}
 use Rattle.memory.proofs.Entries.{everywhere}
 
 page_byte : (f : ℕ → ℕ) (o : ℕ) → o < 256 → (d : ℕ) → get_or (page_by f).bytes o d ≡ f o
 unfolding page_by
 page_byte f o h d = get_or-map-range_with_len f 0 256 o o d h (omega arith)
 
-page_length : (f : ℕ → ℕ) → length (page_by f).bytes ≡ 256
-unfolding page_by
-page_length f = length-map-range_with_len f 0 256
-
 -- a page with one byte changed
 page_set : (f g : ℕ → ℕ) (o v : ℕ) → o < 256 → g o ≡ v → ((i : ℕ) → i < 256 → (i ≡ o → ⊥) → g i ≡ f i) → (page_by g).bytes ≡ set (page_by f).bytes o v
 page_set f g o v h hit same =
-    same_lists _ _ (page_length g ∙ sym (length-set (page_by f).bytes o v ∙ page_length f))
+    same_lists _ _ (page_by_whole g ∙ sym (length-set (page_by f).bytes o v ∙ page_by_whole f))
     (λ k d l.
-    let j : k < 256 = omega (arith, page_length g) in
+    let j : k < 256 = omega (arith, page_by_whole g) in
     page_byte g k j d ∙ elim (cases_eq k o) [
       | inl q ↦
-          let m : o < length (page_by f).bytes = omega (arith, page_length f) in
+          let m : o < length (page_by f).bytes = omega (arith, page_by_whole f) in
           ap g q ∙ hit ∙ sym (ap (λ i. get_or (set (page_by f).bytes o v) i d) q ∙ get_or-set_same (page_by f).bytes o v d m)
       | inr q ↦ same k j q ∙ sym (get_or-set_other (page_by f).bytes o k v d q ∙ page_byte f k j d)
     ])
 
 page_same : (f g : ℕ → ℕ) → ((i : ℕ) → i < 256 → g i ≡ f i) → (page_by g).bytes ≡ (page_by f).bytes
 page_same f g same =
-    same_lists _ _ (page_length g ∙ sym (page_length f))
-    (λ k d l. let j : k < 256 = omega (arith, page_length g) in page_byte g k j d ∙ same k j ∙ sym (page_byte f k j d))
+    same_lists _ _ (page_by_whole g ∙ sym (page_by_whole f))
+    (λ k d l. let j : k < 256 = omega (arith, page_by_whole g) in page_byte g k j d ∙ same k j ∙ sym (page_byte f k j d))
 
 module _ (f : ℕ → ℕ → ℕ) (a : ℕ) where
   page_here : a < 16384 → (pages_by f).page (page_of a) ≡ page_by (f (page_of a))
@@ -67,14 +63,8 @@ module _ (bs : List ℕ) (a : ℕ) where
   bytes_here : get_or bs (page_of a * 256 + offset_of a) 255 ≡ get_or bs a 255
   bytes_here = let e : page_of a * 256 + offset_of a ≡ a = omega arith in ap (λ i. get_or bs i 255) e
 
-  pub read_held : a < 16384 → a < length bs → get_or bs a 0 ≡ read_at (bytes_pages bs).page a
-  read_held h l = get_or_default bs a 0 255 l ∙ sym (read_by (bytes_byte bs) a ∙ cond-true _ _ _ (lt-ltb a 16384 h) ∙ bytes_here)
-
-  pub read_past : (a < 16384 → length bs ≤ a) → 255 ≡ read_at (bytes_pages bs).page a
-  read_past h = sym (read_by (bytes_byte bs) a ∙ elim (cases_Bool (ltb a 16384)) [
-    | inl t ↦ cond-true _ _ _ t ∙ bytes_here ∙ get_or_past bs a 255 (h (ltb-true a 16384 t))
-    | inr t ↦ cond-false _ _ _ t
-  ])
+  pub bytes_read : read_at (bytes_pages bs).page a ≡ cond (ltb a 16384) (get_or bs a 255) 255
+  bytes_read = read_by (bytes_byte bs) a ∙ ap (λ b. cond (ltb a 16384) b 255) bytes_here
 
   pub ram_write : (v : ℕ) → a < 16384 → a < length bs → (bytes_pages (set bs a v)).page ≡ write_at (ram_effect (length bs)) (bytes_pages bs).page a v
   ram_write v h l =
@@ -86,24 +76,10 @@ module _ (bs : List ℕ) (a : ℕ) where
       ∙ ap (put (bytes_pages bs).page (page_of a)) (sym (cond-true _ _ _ (lt-ltb (page_of a * 256 + offset_of a) (length bs) within)))
       ∙ sym (cond-true _ _ _ (lt-ltb a 16384 h))
 
-  pub stored_past : (v : ℕ) → (a < 16384 → length bs ≤ a) → bs ≡ stored bs a v
-  stored_past v h = elim (cases_Bool (ltb a 16384)) [
-    | inl t ↦ sym (cond-true _ _ _ t ∙ set_past bs a v (h (ltb-true a 16384 t)))
-    | inr t ↦ sym (cond-false _ _ _ t)
-  ]
-
 -- a status page
 module _ (n : ℕ) (bs : List ℕ) (a : ℕ) where
-  pub status_read : length bs ≡ 256 → a < 16384 → page_of a ≡ n → get_or bs (offset_of a) 0 ≡ read_at (status_pages n bs).page a
-  status_read whole h e =
-      get_or_default bs (offset_of a) 0 255 (omega arith)
-      ∙ sym (read_by (status_byte n bs) a ∙ cond-true _ _ _ (lt-ltb a 16384 h) ∙ cond-true _ _ _ (eq-eqb (page_of a) n e))
-
-  pub status_elsewhere : (a < 16384 → page_of a ≡ n → ⊥) → 255 ≡ read_at (status_pages n bs).page a
-  status_elsewhere ne = sym (read_by (status_byte n bs) a ∙ elim (cases_Bool (ltb a 16384)) [
-    | inl t ↦ cond-true _ _ _ t ∙ cond-false _ _ _ (ne_eqb (page_of a) n (ne (ltb-true a 16384 t)))
-    | inr t ↦ cond-false _ _ _ t
-  ])
+  pub status_read : read_at (status_pages n bs).page a ≡ cond (ltb a 16384) (cond (eqb (page_of a) n) (get_or bs (offset_of a) 255) 255) 255
+  status_read = read_by (status_byte n bs) a
 
   pub status_write : length bs ≡ 256 → (b : ℕ) → a < 16384 → page_of a ≡ n
       → (status_pages n (set bs (offset_of a) (bit_and (get_or bs (offset_of a) 0) (255 - b)))).page ≡ write_at (status_effect n) (status_pages n bs).page a b
@@ -122,17 +98,3 @@ module _ (n : ℕ) (bs : List ℕ) (a : ℕ) where
       ∙ ap (λ x. put (status_pages n bs).page (page_of a) (record { bytes = set ((status_pages n bs).page (page_of a)).bytes (offset_of a) (bit_and x (255 - b)) })) (sym old)
       ∙ ap (put (status_pages n bs).page (page_of a)) (sym (cond-true _ _ _ here))
       ∙ sym (cond-true _ _ _ (lt-ltb a 16384 h))
-
-module _ (n : ℕ) (bs : List ℕ) (a b : ℕ) where
-  pub cleared_here : a < 16384 → page_of a ≡ n → set bs (offset_of a) (bit_and (get_or bs (offset_of a) 0) (255 - b)) ≡ cleared n bs a b
-  cleared_here h e =
-      sym (ap (λ t. cond (t && eqb (page_of a) n) (set bs (offset_of a) (bit_and (get_or bs (offset_of a) 0) (255 - b))) bs) (lt-ltb a 16384 h)
-      ∙ cond-true _ _ _ (eq-eqb (page_of a) n e))
-
-  pub cleared_elsewhere : (a < 16384 → page_of a ≡ n → ⊥) → bs ≡ cleared n bs a b
-  cleared_elsewhere ne = elim (cases_Bool (ltb a 16384)) [
-    | inl t ↦
-        sym (ap (λ s. cond (s && eqb (page_of a) n) (set bs (offset_of a) (bit_and (get_or bs (offset_of a) 0) (255 - b))) bs) t
-        ∙ cond-false _ _ _ (ne_eqb (page_of a) n (ne (ltb-true a 16384 t))))
-    | inr t ↦ sym (ap (λ s. cond (s && eqb (page_of a) n) (set bs (offset_of a) (bit_and (get_or bs (offset_of a) 0) (255 - b))) bs) t)
-  ]
