@@ -1,4 +1,4 @@
-ghost use Rattle.memory.specs.Kinds.{joined_pages, joined_effect, end_to_end_pages, end_to_end_effect, part_after};
+ghost use Rattle.memory.specs.Kinds.{joined_pages, joined_effect, part_after};
 ghost use Rattle.memory.specs.Pages.{page_of, write_at};
 ghost use Rattle.std.specs.Prelude.{◌≡◌, not, nat_lt};
 
@@ -29,9 +29,9 @@ impl<A: Memory, B: Memory> EndToEnd<A, B> {
 }
 
 impl<A: Memory, B: Memory> Memory for EndToEnd<A, B> {
-    ghost pages = { end_to_end_pages A.Memory.pages B.Memory.pages };
+    ghost pages = { λ m. joined_pages m.border (A.Memory.pages m.first) (B.Memory.pages m.second) };
 
-    ghost effect = { end_to_end_effect A.Memory.effect B.Memory.effect };
+    ghost effect = { λ m. joined_effect m.border (A.Memory.effect m.first) (B.Memory.effect m.second) };
 
     fn read(&self, address: usize) -> u8 {
         let (page, _) = split(address);
@@ -43,8 +43,9 @@ impl<A: Memory, B: Memory> Memory for EndToEnd<A, B> {
     }
 
     fn write(&mut self, address: usize, byte: u8)
-        ensures pages { (⟦<EndToEnd<A, B> as Memory>⟧.pages self.new).page ≡ write_at (⟦<EndToEnd<A, B> as Memory>⟧.effect self.old) (⟦<EndToEnd<A, B> as Memory>⟧.pages self.old).page address byte }
-        ensures effect { ⟦<EndToEnd<A, B> as Memory>⟧.effect self.new ≡ ⟦<EndToEnd<A, B> as Memory>⟧.effect self.old }
+        // the trait's two clauses again: whoever calls a method that has its own clauses knows only those
+        ensures pages { let m = ⟦<EndToEnd<A, B> as Memory>⟧ in (m.pages self.new).page ≡ write_at (m.effect self.old) (m.pages self.old).page address byte }
+        ensures effect { let m = ⟦<EndToEnd<A, B> as Memory>⟧ in m.effect self.new ≡ m.effect self.old }
         ensures first { (A.Memory.pages self.new.first).page ≡ part_after (nat_lt (page_of address) self.old.border) (A.Memory.effect self.old.first) (A.Memory.pages self.old.first) address byte }
         ensures second { (B.Memory.pages self.new.second).page ≡ part_after (not (nat_lt (page_of address) self.old.border)) (B.Memory.effect self.old.second) (B.Memory.pages self.old.second) address byte }
     {

@@ -30,8 +30,9 @@ impl<'a> Memory for Ram<'a> {
     }
 
     fn write(&mut self, address: usize, byte: u8)
-        ensures pages { (⟦<Ram<'a> as Memory>⟧.pages self.new).page ≡ write_at (⟦<Ram<'a> as Memory>⟧.effect self.old) (⟦<Ram<'a> as Memory>⟧.pages self.old).page address byte }
-        ensures effect { ⟦<Ram<'a> as Memory>⟧.effect self.new ≡ ⟦<Ram<'a> as Memory>⟧.effect self.old }
+        // the trait's two clauses again: whoever calls a method that has its own clauses knows only those
+        ensures pages { let m = ⟦<Ram<'a> as Memory>⟧ in (m.pages self.new).page ≡ write_at (m.effect self.old) (m.pages self.old).page address byte }
+        ensures effect { let m = ⟦<Ram<'a> as Memory>⟧ in m.effect self.new ≡ m.effect self.old }
         ensures bytes { self.new.bytes.now ≡ stored self.old.bytes.now address byte }
     {
         bytes::write(self.bytes, address, byte);

@@ -28,7 +28,7 @@ impl<'a> Memory for StatusPage<'a> {
 
     ghost effect = { λ m. status_effect m.number };
 
-    #[tactic(auto, using(crate::proofs::Tables::status_read, std::proofs::lemmas::List::get_or_default))]
+    #[tactic(auto, using(crate::proofs::Tables::status_read, crate::proofs::Tables::status_elsewhere))]
     fn read(&self, address: usize) -> u8 {
         let (page, offset) = split(address);
         if address < END && page == self.number {
@@ -42,8 +42,9 @@ impl<'a> Memory for StatusPage<'a> {
 
     #[tactic(auto, using(crate::proofs::Tables::status_write))]
     fn write(&mut self, address: usize, byte: u8)
-        ensures pages { (⟦<StatusPage<'a> as Memory>⟧.pages self.new).page ≡ write_at (⟦<StatusPage<'a> as Memory>⟧.effect self.old) (⟦<StatusPage<'a> as Memory>⟧.pages self.old).page address byte }
-        ensures effect { ⟦<StatusPage<'a> as Memory>⟧.effect self.new ≡ ⟦<StatusPage<'a> as Memory>⟧.effect self.old }
+        // the trait's two clauses again: whoever calls a method that has its own clauses knows only those
+        ensures pages { let m = ⟦<StatusPage<'a> as Memory>⟧ in (m.pages self.new).page ≡ write_at (m.effect self.old) (m.pages self.old).page address byte }
+        ensures effect { let m = ⟦<StatusPage<'a> as Memory>⟧ in m.effect self.new ≡ m.effect self.old }
         ensures bytes { self.new.bytes.now ≡ cleared self.old.number self.old.bytes.now address byte }
     {
         let (page, offset) = split(address);
