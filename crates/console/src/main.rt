@@ -30,6 +30,7 @@ struct App {
 }
 
 impl App {
+    /// The app with the halves of its parameter and with its master password.
     fn new(high: u64, low: u64, master: u64) -> Self {
         App {
             parameter: Parameter { high, low },

@@ -119,6 +119,7 @@ fn steps(report: &mut Report<impl Print>) -> io::Result<()> {
     report.expect("step of drill, past 2^64", Drill.step(wrap, 2), 1)
 }
 
+/// The greatest high half that the function states.
 fn greatest_high<F: OneWay>(
     report: &mut Report<impl Print>,
     case: &str,

@@ -11,6 +11,7 @@ pub struct Report<'a, R> {
 }
 
 impl<'a, R: Print> Report<'a, R> {
+    /// A report of no case so far, printed there.
     pub fn new(rt: &'a R) -> Self {
         Report {
             rt,
