@@ -2,8 +2,8 @@
 use Rattle.std.proofs.Common.{◌≡◌, ℕ, ◌+◌, ◌-◌, ◌*◌, ◌<◌, cond, ltb, List, length, get_or, set, sym, ap, ◌∙◌, arith}
 use mathlib.Core.Path.{fun_ext}
 use lib.Bits.{bit_and}
-use Rattle.std.proofs.lemmas.List.FromFn.{get_or-map-range_with_len}
-use Rattle.std.proofs.lemmas.List.{length-set, get_or_default, get_or-set_other, same_lists}
+use Rattle.std.proofs.lemmas.List.FromFn.{get_or-map-range_with_len, fill_by_all}
+use Rattle.std.proofs.lemmas.List.{length-set, get_or_default, get_or-set_other}
 use Rattle.std.proofs.lemmas.Bool.{eqb-false}
 use Rattle.std.proofs.lemmas.Grind.{common_steps, get_or-set_at}
 use Rattle.std.proofs.lemmas.Bool.Decides.{nat_tests}
@@ -15,18 +15,18 @@ page_byte : (f : ℕ → ℕ) (o : ℕ) → o < 256 → (d : ℕ) → get_or (pa
 unfolding page_by
 page_byte f o h d = get_or-map-range_with_len f 0 256 o o d h (omega arith)
 
+page_filled : (f : ℕ → ℕ) (bs : List ℕ) → length bs ≡ 256 → ((k : ℕ) → k < 256 → get_or bs k 0 ≡ f k) → bs ≡ (page_by f).bytes
+unfolding page_by
+page_filled f bs = fill_by_all f bs 256 0
+
 -- a page with one byte changed
 page_set : (f g : ℕ → ℕ) (o v : ℕ) → o < 256 → g o ≡ v → ((i : ℕ) → i < 256 → (i ≡ o → ⊥) → g i ≡ f i) → (page_by g).bytes ≡ set (page_by f).bytes o v
 page_set f g o v h hit same =
-    same_lists _ _ (page_by_whole g ∙ sym (length-set (page_by f).bytes o v ∙ page_by_whole f))
-    (λ k d l.
-    let j : k < 256 = omega (arith, page_by_whole g) in
-    grind (arith, common_steps, page_byte f k j d, page_byte g k j d, page_by_whole f, hit, same k j))
+    sym (page_filled g (set (page_by f).bytes o v) (length-set (page_by f).bytes o v ∙ page_by_whole f)
+    (λ k j. grind (arith, common_steps, page_byte f k j 0, page_by_whole f, hit, same k j)))
 
 page_same : (f g : ℕ → ℕ) → ((i : ℕ) → i < 256 → g i ≡ f i) → (page_by g).bytes ≡ (page_by f).bytes
-page_same f g same =
-    same_lists _ _ (page_by_whole g ∙ sym (page_by_whole f))
-    (λ k d l. let j : k < 256 = omega (arith, page_by_whole g) in grind (arith, page_byte f k j d, page_byte g k j d, same k j))
+page_same f g same = page_filled f (page_by g).bytes (page_by_whole g) (λ k j. page_byte g k j 0 ∙ same k j)
 
 module _ (f : ℕ → ℕ → ℕ) (a : ℕ) where
   page_here : a < 16384 → (pages_by f).page (page_of a) ≡ page_by (f (page_of a))
