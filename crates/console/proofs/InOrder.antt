@@ -1,8 +1,7 @@
 -- One byte more of a row.
-use Rattle.std.proofs.Common.{◌≡◌, ℕ, ◌+◌, ◌<◌, ◌≤◌, List, map, length, get_or, drop, sym, ap, ◌∙◌, arith}
-use Rattle.std.specs.List.{range_with_len}
-use Rattle.std.proofs.lemmas.List.FromFn.{get_or-map-range_with_len, length-map-range_with_len}
-use Rattle.std.proofs.lemmas.List.{drop_all, drop_more, ext_get_or}
+use Rattle.std.proofs.Common.{◌≡◌, ℕ, ◌+◌, ◌<◌, ◌≤◌, List, length, get_or, drop, ap, arith}
+use Rattle.std.proofs.lemmas.List.FromFn.{fill_by_all}
+use Rattle.std.proofs.lemmas.List.{drop_all, drop_more}
 use Rattle.memory.specs.Pages.{Page, Effect, read_at, write_at}
 use Rattle.console.specs.Rows.{stored_from, loaded_from}
 
@@ -16,11 +15,8 @@ module _ (e : Effect) where
   unfolding stored_from
   stored_more m a i bs l =
       let next : a + (i + 1) ≡ a + i + 1 = omega arith in
-      ap (λ n. stored_from e (write_at e m (a + i) (get_or bs i 0)) n (drop (i + 1) bs)) next
-      ∙ sym (ap (stored_from e m (a + i)) (drop_more bs i 0 l))
+      rw (drop_more bs i 0 l, next)
 
 pub loaded_all : (m : ℕ → Page) (a n : ℕ) (bs : List ℕ) → length bs ≡ n → ((k : ℕ) → k < n → get_or bs k 0 ≡ read_at m (a + k)) → bs ≡ loaded_from m a n
 unfolding loaded_from
-loaded_all m a n bs e h =
-    ext_get_or 0 bs (map (λ i. read_at m (a + i)) (range_with_len 0 n)) (e ∙ sym (length-map-range_with_len (λ i. read_at m (a + i)) 0 n))
-    (λ k l. let j : k < n = omega arith in h k j ∙ sym (get_or-map-range_with_len (λ i. read_at m (a + i)) 0 n k k 0 j (omega arith)))
+loaded_all m a n bs = fill_by_all (λ i. read_at m (a + i)) bs n 0

@@ -29,22 +29,30 @@ struct App {
     master: u64,
 }
 
+impl App {
+    /// The app with the halves of its parameter and with its master password.
+    fn new(high: u64, low: u64, master: u64) -> Self {
+        App {
+            parameter: Parameter { high, low },
+            master,
+        }
+    }
+}
+
 /// Keeps the chain of the app in the memory, and prints the chain and what the memory then holds.
-fn keep<F: OneWay, M: Memory + Drop>(
-    rt: &HostRuntime,
-    function: &F,
+fn keep(
+    rt: &impl Print,
+    function: &impl OneWay,
     app: App,
-    memory: M,
+    memory: &mut impl Memory,
 ) -> io::Result<()> {
-    let mut memory = memory;
-    let App { parameter, master } = app;
-    let passwords = chain(function, parameter, master, 8);
+    let passwords = chain(function, app.parameter, app.master, 8);
     for (i, password) in passwords.iter().enumerate() {
-        println!(rt; "  place {i}: {:016x}", *password)?;
-        rows::store(&mut memory, FIRST + 8 * i, &password.to_be_bytes());
+        println!(rt; "  place {i}: {password:016x}")?;
+        rows::store(memory, FIRST + 8 * i, &password.to_be_bytes());
     }
     let mut bytes = [0u8; 64];
-    rows::load(&memory, FIRST, &mut bytes);
+    rows::load(memory, FIRST, &mut bytes);
     let (first_page, _) = memory::address::split(FIRST);
     let (last_page, _) = memory::address::split(FIRST + 63);
     println!(rt;
@@ -53,49 +61,27 @@ fn keep<F: OneWay, M: Memory + Drop>(
     for row in bytes.chunks(16) {
         print!(rt; " ")?;
         for byte in row {
-            print!(rt; " {:02x}", *byte)?;
+            print!(rt; " {byte:02x}")?;
         }
         println!(rt; "")?;
     }
     Ok(())
 }
 
-/// RAM below the border and a status page above it.
-fn joined<'a>(ram: &'a mut [u8], status: &'a mut [u8; 256]) -> EndToEnd<Ram<'a>, StatusPage<'a>> {
-    EndToEnd::new(BORDER, Ram::new(ram), StatusPage::new(BORDER, status))
-}
-
 /// Keeps the chain in new RAM below the border, and in a status page with all bits set above it.
-fn show<F: OneWay>(rt: &HostRuntime, name: &str, function: &F, app: App) -> io::Result<()> {
+fn show(rt: &impl Print, name: &str, function: &impl OneWay, app: App) -> io::Result<()> {
     println!(rt;
         "{name}, parameter ({}, {}), master {}",
         app.parameter.high, app.parameter.low, app.master
     )?;
-    let mut ram = [0u8; 8_192];
-    let mut status = [255u8; 256];
-    keep(rt, function, app, joined(&mut ram, &mut status))
+    let mut ram = [0; 8_192];
+    let mut status = [255; 256];
+    let (low, high) = (Ram::new(&mut ram), StatusPage::new(BORDER, &mut status));
+    keep(rt, function, app, &mut EndToEnd::new(BORDER, low, high))
 }
 
 fn main(rt: HostRuntime) -> io::Result<()> {
-    let drill = App {
-        parameter: Parameter { high: 0, low: 10 },
-        master: 100,
-    };
-    show(&rt, "drill", &Drill, drill)?;
-    let speck = App {
-        parameter: Parameter {
-            high: 1_234,
-            low: 5_678,
-        },
-        master: 100,
-    };
-    show(&rt, "Speck64/128", &Speck, speck)?;
-    let present = App {
-        parameter: Parameter {
-            high: 65_535,
-            low: 5_678,
-        },
-        master: 100,
-    };
-    show(&rt, "PRESENT-80", &Present, present)
+    show(&rt, "drill", &Drill, App::new(0, 10, 100))?;
+    show(&rt, "Speck64/128", &Speck, App::new(1_234, 5_678, 100))?;
+    show(&rt, "PRESENT-80", &Present, App::new(65_535, 5_678, 100))
 }

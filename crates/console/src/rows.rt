@@ -4,6 +4,7 @@ ghost use Rattle.console.specs.Rows.{stored_from, loaded_from};
 use memory::Memory;
 
 /// Writes the bytes one after the other, from address `first` on.
+#[tactic(auto, using(crate::proofs::InOrder::stored_all, crate::proofs::InOrder::stored_more))]
 pub fn store<M: Memory>(memory: &mut M, first: usize, bytes: &[u8])
     requires { first + length bytes.now < 2 ^ 64 }
     ensures pages { (M.Memory.pages memory.new).page ≡ stored_from (M.Memory.effect memory.old) (M.Memory.pages memory.old).page first bytes.now }
@@ -15,6 +16,7 @@ pub fn store<M: Memory>(memory: &mut M, first: usize, bytes: &[u8])
 }
 
 /// Reads bytes one after the other, from address `first` on, until the buffer is full.
+#[tactic(auto, using(crate::proofs::InOrder::loaded_all))]
 pub fn load<M: Memory>(memory: &M, first: usize, buffer: &mut [u8])
     requires { first + length buffer.old < 2 ^ 64 }
     ensures { buffer.new ≡ loaded_from (M.Memory.pages memory.now).page first (length buffer.old) }

@@ -4,7 +4,6 @@ use Rattle.std.specs.List.{range_with_len}
 use Rattle.std.proofs.lemmas.List.FromFn.{length-map-range_with_len}
 use Rattle.std.proofs.lemmas.Bool.{cond-false, le-ltb}
 use Rattle.memory.specs.Pages.{Page, Pages, Effect, blank, byte_at, page_of, offset_of, write_at}
-use Rattle.memory.specs.declared.end_to_end.EndToEnd.{EndToEnd}
 
 -- the page of 256 bytes f 0, f 1, ..
 unfoldable pub page_by : (ℕ → ℕ) → Page
@@ -81,10 +80,3 @@ joined_effect border e d q p o b = cond (nat_lt q border) (e q p o b) (d q p o b
 -- what a write leaves of one of them: it is the write's own if the write goes there
 abbrev pub part_after : Bool → Effect → Pages → ℕ → ℕ → ℕ → Page
 part_after goes e f a b = cond goes (write_at e f.page a b) f.page
-
-module _ {A B : Type 0} where
-  abbrev pub end_to_end_pages : (A → Pages) → (B → Pages) → EndToEnd A B → Pages
-  end_to_end_pages f g m = joined_pages m.border (f m.first) (g m.second)
-
-  abbrev pub end_to_end_effect : (A → Effect) → (B → Effect) → EndToEnd A B → Effect
-  end_to_end_effect e d m = joined_effect m.border (e m.first) (d m.second)

@@ -1,22 +1,30 @@
-ghost use Rattle.memory.specs.Any.{any_pages, any_effect};
+ghost use Rattle.memory.specs.declared.any.AnyMemory.TheVariants.{Ram, Rom, StatusPage};
 
 use crate::Memory;
 use crate::ram::Ram;
 use crate::rom::Rom;
 use crate::status_page::StatusPage;
 
-/// A memory whose kind is chosen as the program runs.
-#[derive(Drop)]
+/// A memory whose kind is chosen as the program runs: an enum, since there is no heap for a box.
+#[derive(Debug, Drop)]
 pub enum AnyMemory<'a> {
     Ram(Ram<'a>),
     Rom(Rom<'a>),
     StatusPage(StatusPage<'a>),
 }
 
-impl Memory for AnyMemory<'_> {
-    ghost pages = { any_pages };
+impl<'a> Memory for AnyMemory<'a> {
+    ghost pages = { elim [
+      | Ram memory ↦ ⟦<Ram<'a> as Memory>⟧.pages memory
+      | Rom memory ↦ ⟦<Rom<'a> as Memory>⟧.pages memory
+      | StatusPage memory ↦ ⟦<StatusPage<'a> as Memory>⟧.pages memory
+    ] };
 
-    ghost effect = { any_effect };
+    ghost effect = { elim [
+      | Ram memory ↦ ⟦<Ram<'a> as Memory>⟧.effect memory
+      | Rom memory ↦ ⟦<Rom<'a> as Memory>⟧.effect memory
+      | StatusPage memory ↦ ⟦<StatusPage<'a> as Memory>⟧.effect memory
+    ] };
 
     fn read(&self, address: usize) -> u8 {
         match self {

@@ -3,17 +3,13 @@
 
 mod memories;
 mod one_way_functions;
-mod tally;
+mod report;
 
-use tally::Tally;
-
-fn run(rt: &HostRuntime) -> anyhow::Result<()> {
-    let mut tally = Tally::new();
-    one_way_functions::run(rt, &mut tally)?;
-    memories::run(rt, &mut tally)?;
-    tally.close(rt)
-}
+use report::Report;
 
 fn main(rt: HostRuntime) -> anyhow::Result<()> {
-    run(&rt)
+    let mut report = Report::new(&rt);
+    one_way_functions::run(&mut report)?;
+    memories::run(&mut report, rt.alloc())?;
+    report.close()
 }

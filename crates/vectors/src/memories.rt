@@ -1,13 +1,13 @@
-use crate::tally::Tally;
+use crate::report::Report;
 use memory::Memory;
 use memory::end_to_end::EndToEnd;
 use memory::ram::Ram;
 use memory::rom::Rom;
 use memory::status_page::StatusPage;
+use std::alloc::Global;
 use std::io;
 
 /// One address: the byte before a write, the byte written, and the byte read afterwards.
-#[derive(Clone, Copy)]
 struct Probe {
     address: usize,
     before: u8,
@@ -15,231 +15,129 @@ struct Probe {
     after: u8,
 }
 
-/// Reads, writes and reads again at the address.
-fn run_probe<M: Memory>(
-    rt: &HostRuntime,
-    tally: &mut Tally,
-    case: &str,
-    memory: &mut M,
-    probe: Probe,
-) -> io::Result<()> {
-    let address = probe.address;
-    println!(rt; "{case}, address {address}, write {:#x}", probe.written)?;
-    tally.expect(
-        rt,
-        "  before",
-        memory.read(address) as u64,
-        probe.before as u64,
-    )?;
-    memory.write(address, probe.written);
-    tally.expect(
-        rt,
-        "  after",
-        memory.read(address) as u64,
-        probe.after as u64,
-    )
+impl Probe {
+    /// The write takes effect as in RAM.
+    fn stored(address: usize, before: u8, written: u8) -> Self {
+        Probe {
+            address,
+            before,
+            written,
+            after: written,
+        }
+    }
+
+    /// The write has no effect.
+    fn kept(address: usize, byte: u8, written: u8) -> Self {
+        Probe {
+            address,
+            before: byte,
+            written,
+            after: byte,
+        }
+    }
+
+    /// Reads, writes and reads again at the address.
+    fn run(
+        self,
+        report: &mut Report<impl Print>,
+        kind: &str,
+        memory: &mut impl Memory,
+    ) -> io::Result<()> {
+        let Probe {
+            address,
+            before,
+            written,
+            after,
+        } = self;
+        report.heading(format_args!("{kind}, address {address}, write {written:#x}"))?;
+        report.expect("  before", memory.read(address), before)?;
+        memory.write(address, written);
+        report.expect("  after", memory.read(address), after)
+    }
 }
 
 /// Edge cases of every kind of memory.
-pub fn run(rt: &HostRuntime, tally: &mut Tally) -> anyhow::Result<()> {
+pub fn run(report: &mut Report<impl Print>, alloc: Global) -> anyhow::Result<()> {
     for length in [0, 1, 300, 16_384, 20_000] {
-        ram(rt, tally, length)?;
+        ram(report, alloc, length)?;
     }
-    rom(rt, tally)?;
+    rom(report)?;
     for number in [63, 64, 0x8000_0000_0000_0000] {
-        status_page(rt, tally, number)?;
+        status_page(report, number)?;
     }
     for border in [0, 1, 63, 64, usize::MAX] {
-        end_to_end(rt, tally, border)?;
+        end_to_end(report, alloc, border)?;
     }
     Ok(())
 }
 
 /// RAM of some bytes, all 7: a write of 9 takes effect below the end of the bytes and below 16,384.
-fn ram(rt: &HostRuntime, tally: &mut Tally, length: usize) -> anyhow::Result<()> {
-    println!(rt; "RAM of {length} bytes")?;
-    let mut bytes = vec![in rt.alloc(); 7u8; length]?;
-    written(rt, tally, &mut bytes, length)?;
-    let mut changed = 0u64;
-    for byte in bytes.iter().skip(16_384) {
-        if *byte != 7 {
-            changed = changed.saturating_add(1);
-        }
-    }
-    tally.expect(rt, "bytes changed past the 16,384th", changed, 0)?;
-    Ok(())
-}
-
-fn written(rt: &HostRuntime, tally: &mut Tally, bytes: &mut [u8], length: usize) -> io::Result<()> {
-    let mut memory = Ram::new(bytes);
+fn ram(report: &mut Report<impl Print>, alloc: Global, length: usize) -> anyhow::Result<()> {
+    report.heading(format_args!("RAM of {length} bytes"))?;
+    let mut bytes = vec![in alloc; 7u8; length]?;
+    let mut memory = Ram::new(&mut bytes);
     for address in [0, 1, 299, 300, 16_383, 16_384, 19_999, usize::MAX] {
-        let held = address < length && address < 16_384;
-        let case = if held {
-            Probe {
-                address,
-                before: 7,
-                written: 9,
-                after: 9,
-            }
+        let probe = if address < length.min(16_384) {
+            Probe::stored(address, 7, 9)
         } else {
-            Probe {
-                address,
-                before: 255,
-                written: 9,
-                after: 255,
-            }
+            Probe::kept(address, 255, 9)
         };
-        run_probe(rt, tally, "RAM", &mut memory, case)?;
+        probe.run(report, "RAM", &mut memory)?;
     }
+    let changed = bytes.iter().skip(16_384).filter(|byte| **byte != 7).count();
+    report.expect("bytes changed past the 16,384th", changed as u64, 0)?;
     Ok(())
 }
 
 /// ROM keeps its bytes.
-fn rom(rt: &HostRuntime, tally: &mut Tally) -> io::Result<()> {
-    let bytes = [1u8, 2, 3];
-    let mut memory = Rom::new(&bytes);
-    run_probe(
-        rt,
-        tally,
-        "ROM",
-        &mut memory,
-        Probe {
-            address: 2,
-            before: 3,
-            written: 9,
-            after: 3,
-        },
-    )?;
-    run_probe(
-        rt,
-        tally,
-        "ROM",
-        &mut memory,
-        Probe {
-            address: 3,
-            before: 255,
-            written: 9,
-            after: 255,
-        },
-    )?;
-    run_probe(
-        rt,
-        tally,
-        "ROM",
-        &mut memory,
-        Probe {
-            address: usize::MAX,
-            before: 255,
-            written: 9,
-            after: 255,
-        },
-    )
+fn rom(report: &mut Report<impl Print>) -> io::Result<()> {
+    let mut memory = Rom::new(&[1, 2, 3]);
+    for (address, byte) in [(2, 3), (3, 255), (usize::MAX, 255)] {
+        Probe::kept(address, byte, 9).run(report, "ROM", &mut memory)?;
+    }
+    Ok(())
 }
 
-/// A status page with all bits set: a write clears bits, twice the same ones; a page number of 64 or more is nowhere.
-fn status_page(rt: &HostRuntime, tally: &mut Tally, number: usize) -> io::Result<()> {
-    println!(rt; "status page number {number}")?;
-    let mut bytes = [0xf3u8; 256];
+/// A status page with some bits set: a write clears bits; a page number of 64 or more is nowhere.
+fn status_page(report: &mut Report<impl Print>, number: usize) -> io::Result<()> {
+    report.heading(format_args!("status page number {number}"))?;
+    let mut bytes = [0xf3; 256];
     let mut memory = StatusPage::new(number, &mut bytes);
-    let (first, last) = if number == 63 {
-        (
-            Probe {
-                address: 16_128,
-                before: 0xf3,
-                written: 0x0f,
-                after: 0xf0,
-            },
-            Probe {
-                address: 16_383,
-                before: 0xf3,
-                written: 0xff,
-                after: 0,
-            },
-        )
-    } else {
-        (
-            Probe {
-                address: 16_128,
-                before: 255,
-                written: 0x0f,
-                after: 255,
-            },
-            Probe {
-                address: 16_383,
-                before: 255,
-                written: 0xff,
-                after: 255,
-            },
-        )
-    };
-    run_probe(rt, tally, "status page", &mut memory, first)?;
-    run_probe(rt, tally, "status page", &mut memory, last)?;
-    for address in [0, 16_127, 16_384, 16_640, usize::MAX] {
-        run_probe(
-            rt,
-            tally,
-            "status page",
-            &mut memory,
+    for (address, written, after) in [(16_128, 0x0f, 0xf0), (16_383, 0xff, 0)] {
+        let probe = if number == 63 {
             Probe {
                 address,
-                before: 255,
-                written: 1,
-                after: 255,
-            },
-        )?;
+                before: 0xf3,
+                written,
+                after,
+            }
+        } else {
+            Probe::kept(address, 255, written)
+        };
+        probe.run(report, "status page", &mut memory)?;
+    }
+    for address in [0, 16_127, 16_384, 16_640, usize::MAX] {
+        Probe::kept(address, 255, 1).run(report, "status page", &mut memory)?;
     }
     Ok(())
 }
 
 /// RAM of all addresses below the border and ROM above it, each under its own page number.
-fn end_to_end(rt: &HostRuntime, tally: &mut Tally, border: usize) -> anyhow::Result<()> {
-    println!(rt; "RAM and ROM end to end, border {border}")?;
-    let mut low = vec![in rt.alloc(); 7u8; 16_384]?;
-    let high = vec![in rt.alloc(); 5u8; 16_384]?;
-    joined(rt, tally, border, Ram::new(&mut low), Rom::new(&high))?;
-    Ok(())
-}
-
-fn joined<A: Memory + Drop, B: Memory + Drop>(
-    rt: &HostRuntime,
-    tally: &mut Tally,
-    border: usize,
-    first: A,
-    second: B,
-) -> io::Result<()> {
-    let mut memory = EndToEnd::new(border, first, second);
-    for page in [0usize, 1, 62, 63] {
-        let address = page * 256 + 255;
-        let case = if page < border {
-            Probe {
-                address,
-                before: 7,
-                written: 9,
-                after: 9,
-            }
+fn end_to_end(report: &mut Report<impl Print>, alloc: Global, border: usize) -> anyhow::Result<()> {
+    report.heading(format_args!("RAM and ROM end to end, border {border}"))?;
+    let mut low = vec![in alloc; 7u8; 16_384]?;
+    let high = vec![in alloc; 5u8; 16_384]?;
+    let mut memory = EndToEnd::new(border, Ram::new(&mut low), Rom::new(&high));
+    for address in [255, 511, 16_127, 16_383] {
+        let probe = if address / 256 < border {
+            Probe::stored(address, 7, 9)
         } else {
-            Probe {
-                address,
-                before: 5,
-                written: 9,
-                after: 5,
-            }
+            Probe::kept(address, 5, 9)
         };
-        run_probe(rt, tally, "end to end", &mut memory, case)?;
+        probe.run(report, "end to end", &mut memory)?;
     }
     for address in [16_384, usize::MAX] {
-        run_probe(
-            rt,
-            tally,
-            "end to end",
-            &mut memory,
-            Probe {
-                address,
-                before: 255,
-                written: 9,
-                after: 255,
-            },
-        )?;
+        Probe::kept(address, 255, 9).run(report, "end to end", &mut memory)?;
     }
     Ok(())
 }

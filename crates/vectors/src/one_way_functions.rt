@@ -1,4 +1,4 @@
-use crate::tally::Tally;
+use crate::report::Report;
 use ciphers::present::Present;
 use ciphers::speck::Speck;
 use ciphers::{present, speck};
@@ -7,6 +7,21 @@ use one_way::chain::chain;
 use one_way::drill::Drill;
 use std::io;
 use vocabulary::parameter::Parameter;
+
+/// A published vector of a cipher.
+struct Vector {
+    case: &'static str,
+    key: Parameter,
+    text: u64,
+    cipher: u64,
+}
+
+const SPECK: [Vector; 1] = [Vector {
+    case: "Speck64/128",
+    key: SPECK_KEY,
+    text: SPECK_TEXT,
+    cipher: SPECK_CIPHER,
+}];
 
 const SPECK_KEY: Parameter = Parameter {
     high: 0x1b1a_1918_1312_1110,
@@ -17,6 +32,33 @@ const SPECK_TEXT: u64 = 0x3b72_6574_7475_432d;
 
 const SPECK_CIPHER: u64 = 0x8c6f_a548_454e_028b;
 
+const PRESENT: [Vector; 4] = [
+    Vector {
+        case: "PRESENT-80, key 00.., text 00..",
+        key: ZEROS,
+        text: 0,
+        cipher: 0x5579_c138_7b22_8445,
+    },
+    Vector {
+        case: "PRESENT-80, key ff.., text 00..",
+        key: ONES,
+        text: 0,
+        cipher: 0xe72c_46c0_f594_5049,
+    },
+    Vector {
+        case: "PRESENT-80, key 00.., text ff..",
+        key: ZEROS,
+        text: u64::MAX,
+        cipher: 0xa112_ffc7_2f68_417b,
+    },
+    Vector {
+        case: "PRESENT-80, key ff.., text ff..",
+        key: ONES,
+        text: u64::MAX,
+        cipher: 0x3333_dcd3_2132_10d2,
+    },
+];
+
 const ZEROS: Parameter = Parameter { high: 0, low: 0 };
 
 const ONES: Parameter = Parameter {
@@ -24,52 +66,39 @@ const ONES: Parameter = Parameter {
     low: u64::MAX,
 };
 
-/// The published vectors, steps and the greatest high halves.
-pub fn run(rt: &HostRuntime, tally: &mut Tally) -> io::Result<()> {
-    tally.expect(
-        rt,
-        "Speck64/128",
-        speck::encrypt(SPECK_KEY, SPECK_TEXT),
-        SPECK_CIPHER,
-    )?;
-    tally.expect(
-        rt,
-        "PRESENT-80, key 00.., text 00..",
-        present::encrypt(ZEROS, 0),
-        0x5579_c138_7b22_8445,
-    )?;
-    tally.expect(
-        rt,
-        "PRESENT-80, key ff.., text 00..",
-        present::encrypt(ONES, 0),
-        0xe72c_46c0_f594_5049,
-    )?;
-    tally.expect(
-        rt,
-        "PRESENT-80, key 00.., text ff..",
-        present::encrypt(ZEROS, u64::MAX),
-        0xa112_ffc7_2f68_417b,
-    )?;
-    tally.expect(
-        rt,
-        "PRESENT-80, key ff.., text ff..",
-        present::encrypt(ONES, u64::MAX),
-        0x3333_dcd3_2132_10d2,
-    )?;
-    steps(rt, tally)?;
-    chains(rt, tally)
+/// The published vectors, steps, the greatest high halves and chains.
+pub fn run(report: &mut Report<impl Print>) -> io::Result<()> {
+    published(report, speck::encrypt, &SPECK)?;
+    published(report, present::encrypt, &PRESENT)?;
+    steps(report)?;
+    greatest_high::<Speck>(report, "greatest high half of Speck", u64::MAX)?;
+    greatest_high::<Present>(report, "greatest high half of PRESENT", 65_535)?;
+    greatest_high::<Drill>(report, "greatest high half of drill", 0)?;
+    chains(report)
+}
+
+/// What the cipher makes of each vector.
+fn published<R: Print, F: Fn(Parameter, u64) -> u64>(
+    report: &mut Report<R>,
+    encrypt: F,
+    vectors: &[Vector],
+) -> io::Result<()>
+    requires { F.IsAlwaysCallable encrypt }
+{
+    for vector in vectors {
+        report.expect(vector.case, encrypt(vector.key, vector.text), vector.cipher)?;
+    }
+    Ok(())
 }
 
 /// A step is the encryption XOR the password; PRESENT uses the low 16 bits of the high half.
-fn steps(rt: &HostRuntime, tally: &mut Tally) -> io::Result<()> {
-    tally.expect(
-        rt,
+fn steps(report: &mut Report<impl Print>) -> io::Result<()> {
+    report.expect(
         "step of Speck",
         Speck.step(SPECK_KEY, SPECK_TEXT),
         SPECK_CIPHER ^ SPECK_TEXT,
     )?;
-    tally.expect(
-        rt,
+    report.expect(
         "step of PRESENT",
         Present.step(ZEROS, u64::MAX),
         0xa112_ffc7_2f68_417b ^ u64::MAX,
@@ -78,8 +107,7 @@ fn steps(rt: &HostRuntime, tally: &mut Tally) -> io::Result<()> {
         high: 0x1_0000,
         low: 0,
     };
-    tally.expect(
-        rt,
+    report.expect(
         "step of PRESENT, high half 2^16",
         Present.step(above, 0),
         0x5579_c138_7b22_8445,
@@ -88,37 +116,24 @@ fn steps(rt: &HostRuntime, tally: &mut Tally) -> io::Result<()> {
         high: 7,
         low: u64::MAX,
     };
-    tally.expect(rt, "step of drill, past 2^64", Drill.step(wrap, 2), 1)?;
-    tally.expect(
-        rt,
-        "greatest high half of Speck",
-        <Speck as OneWay>::high_limit(),
-        u64::MAX,
-    )?;
-    tally.expect(
-        rt,
-        "greatest high half of PRESENT",
-        <Present as OneWay>::high_limit(),
-        65_535,
-    )?;
-    tally.expect(
-        rt,
-        "greatest high half of drill",
-        <Drill as OneWay>::high_limit(),
-        0,
-    )
+    report.expect("step of drill, past 2^64", Drill.step(wrap, 2), 1)
+}
+
+/// The greatest high half that the function states.
+fn greatest_high<F: OneWay>(
+    report: &mut Report<impl Print>,
+    case: &str,
+    wanted: u64,
+) -> io::Result<()> {
+    report.expect(case, F::high_limit(), wanted)
 }
 
 /// Chains of no, one, eight and more passwords.
-fn chains(rt: &HostRuntime, tally: &mut Tally) -> io::Result<()> {
-    let ten = Parameter { high: 0, low: 10 };
-    let none = chain(&Drill, ten, 100, 0);
-    tally.expect(rt, "chain of 0, place 0", none[0], 0)?;
-    let one = chain(&Drill, ten, 100, 1);
-    tally.expect(rt, "chain of 1, place 0", one[0], 100)?;
-    tally.expect(rt, "chain of 1, place 1", one[1], 0)?;
-    let eight = chain(&Drill, ten, 100, 8);
-    tally.expect(rt, "chain of 8, place 7", eight[7], 170)?;
-    let more = chain(&Drill, ten, 100, usize::MAX);
-    tally.expect(rt, "chain of 2^64 - 1, place 7", more[7], 170)
+fn chains(report: &mut Report<impl Print>) -> io::Result<()> {
+    let chain_of = |length| chain(&Drill, Parameter { high: 0, low: 10 }, 100, length);
+    report.expect("chain of 0, place 0", chain_of(0)[0], 0)?;
+    report.expect("chain of 1, place 0", chain_of(1)[0], 100)?;
+    report.expect("chain of 1, place 1", chain_of(1)[1], 0)?;
+    report.expect("chain of 8, place 7", chain_of(8)[7], 170)?;
+    report.expect("chain of 2^64 - 1, place 7", chain_of(usize::MAX)[7], 170)
 }
