@@ -71,8 +71,8 @@ fn keep(
 /// Keeps the chain in new RAM below the border, and in a status page with all bits set above it.
 fn show(rt: &impl Print, name: &str, function: &impl OneWay, app: App) -> io::Result<()> {
     println!(rt;
-        "{name}, parameter ({}, {}), master {}",
-        app.parameter.high, app.parameter.low, app.master
+        "{name}, parameter {}, master {}",
+        app.parameter, app.master
     )?;
     let mut ram = [0; 8_192];
     let mut status = [255; 256];

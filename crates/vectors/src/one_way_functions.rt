@@ -1,8 +1,8 @@
 use crate::report::Report;
 use ciphers::present::Present;
 use ciphers::speck::Speck;
-use ciphers::{present, speck};
 use one_way::OneWay;
+use one_way::block_cipher::BlockCipher;
 use one_way::chain::chain;
 use one_way::drill::Drill;
 use std::io;
@@ -68,8 +68,8 @@ const ONES: Parameter = Parameter {
 
 /// The published vectors, steps, the greatest high halves and chains.
 pub fn run(report: &mut Report<impl Print>) -> io::Result<()> {
-    published(report, speck::encrypt, &SPECK)?;
-    published(report, present::encrypt, &PRESENT)?;
+    published::<Speck>(report, &SPECK)?;
+    published::<Present>(report, &PRESENT)?;
     steps(report)?;
     greatest_high::<Speck>(report, "greatest high half of Speck", u64::MAX)?;
     greatest_high::<Present>(report, "greatest high half of PRESENT", 65_535)?;
@@ -78,15 +78,13 @@ pub fn run(report: &mut Report<impl Print>) -> io::Result<()> {
 }
 
 /// What the cipher makes of each vector.
-fn published<R: Print, F: Fn(Parameter, u64) -> u64>(
-    report: &mut Report<R>,
-    encrypt: F,
+fn published<C: BlockCipher>(
+    report: &mut Report<impl Print>,
     vectors: &[Vector],
-) -> io::Result<()>
-    requires { F.IsAlwaysCallable encrypt }
-{
+) -> io::Result<()> {
     for vector in vectors {
-        report.expect(vector.case, encrypt(vector.key, vector.text), vector.cipher)?;
+        let made = C::encrypt(vector.key, vector.text);
+        report.expect(vector.case, made, vector.cipher)?;
     }
     Ok(())
 }
@@ -125,7 +123,7 @@ fn greatest_high<F: OneWay>(
     case: &str,
     wanted: u64,
 ) -> io::Result<()> {
-    report.expect(case, F::high_limit(), wanted)
+    report.expect(case, F::GREATEST_HIGH, wanted)
 }
 
 /// Chains of no, one, eight and more passwords.
