@@ -37,7 +37,7 @@ pub fn replay<'a, F: OneWay, M: Memory>(
 /// performed.
 pub fn perform_all<'a, F: OneWay, M: Memory>(
     heap: Global,
-    stage: Stage<'a, F, M>,
+    mut stage: Stage<'a, F, M>,
     calls: Vec<Call>,
 ) -> (Stage<'a, F, M>, Result<Vec<Outcome>, AllocError>)
     ensures ran { (S : Setting) (run : Run) → view F.OneWay M.Memory stage.entry ≡ stood S run → IfOk result.1 (λ v. Ran S run (map call_of calls.items) (map heard_of v.items) (view F.OneWay M.Memory result.0)) }
@@ -47,7 +47,6 @@ pub fn perform_all<'a, F: OneWay, M: Memory>(
         Ok(outcomes) => outcomes,
         Err(error) => return (stage, Err(error)),
     };
-    let mut stage = stage;
     for call in calls {
         let (next, outcome) = perform(stage, call);
         stage = next;
@@ -70,12 +69,11 @@ pub fn perform<'a, F: OneWay, M: Memory>(
 }
 
 fn between<'a, F: OneWay, M: Memory>(
-    console: Console<'a, F, M>,
+    mut console: Console<'a, F, M>,
     call: Call,
 ) -> (Stage<'a, F, M>, Outcome)
     ensures { Performed (view_between F.OneWay M.Memory console.entry) (call_of call) (heard_of result.1) (view F.OneWay M.Memory result.0) }
 {
-    let mut console = console;
     match call {
         Call::Create {
             slot,
@@ -84,7 +82,7 @@ fn between<'a, F: OneWay, M: Memory>(
             domains,
         } => {
             let answer = console
-                .create(slot, parameter, master, domains.as_slice())
+                .create(slot, parameter, master, &domains)
                 .and(Ok(Reply::Done));
             (Stage::Between(console), Outcome::Answered(answer))
         }
@@ -105,10 +103,12 @@ fn between<'a, F: OneWay, M: Memory>(
     }
 }
 
-fn during<'a, F: OneWay, M: Memory>(turn: Turn<'a, F, M>, call: Call) -> (Stage<'a, F, M>, Outcome)
+fn during<'a, F: OneWay, M: Memory>(
+    mut turn: Turn<'a, F, M>,
+    call: Call,
+) -> (Stage<'a, F, M>, Outcome)
     ensures { Performed (view_during F.OneWay M.Memory turn.entry) (call_of call) (heard_of result.1) (view F.OneWay M.Memory result.0) }
 {
-    let mut turn = turn;
     match call {
         Call::Close => (
             Stage::Between(turn.close()),
@@ -121,10 +121,9 @@ fn during<'a, F: OneWay, M: Memory>(turn: Turn<'a, F, M>, call: Call) -> (Stage<
         Call::Visit {
             password,
             accesses,
-            buffer,
+            mut buffer,
         } => {
-            let mut buffer = buffer;
-            let answer = turn.visit(password, accesses.as_slice(), buffer.as_mut_slice());
+            let answer = turn.visit(password, &accesses, &mut buffer);
             (Stage::During(turn), Outcome::Visited(answer, buffer))
         }
         Call::Grant {

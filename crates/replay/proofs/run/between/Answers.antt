@@ -8,7 +8,7 @@ pub returns-in-Create : goal.returns-in-Create
 returns-in-Create g c =
     with_none c.args.call c.create.result _ c.and-answer.ensures refl
     (ap call_of c.in-Create.is
-    ∙ ap (λ ds. exec (create c.in-Create.slot c.in-Create.parameter c.in-Create.master ds)) (sym c.as_slice.ensures.value))
+    ∙ ap (λ ds. exec (create c.in-Create.slot c.in-Create.parameter c.in-Create.master ds)) (sym c.deref.ensures.value))
     c.create.ensures
 
 pub returns-in-End : goal.returns-in-End

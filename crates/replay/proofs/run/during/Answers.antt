@@ -14,10 +14,10 @@ returns-in-Visit g c =
     let n : length c.visit-answer.new.buffer ≡ vec_len c.in-Visit.buffer = search rules in
     step c.args.call
     (ap call_of c.in-Visit.is
-    ∙ ap (λ l. app (visit c.in-Visit.password l (vec_items c.in-Visit.buffer))) (sym c.as_slice.ensures.value)
-    ∙ ap (λ b. app (visit c.in-Visit.password c.as_slice.result.now b)) (sym c.as_mut_slice.ensures.value))
+    ∙ ap (λ l. app (visit c.in-Visit.password l (vec_items c.in-Visit.buffer))) (sym c.deref.ensures.value)
+    ∙ ap (λ b. app (visit c.in-Visit.password c.deref.result.now b)) (sym c.deref_mut.ensures.value))
     c.visit-answer.ensures.obeys
-    (visit_heard c.visit-answer.result (with_items c.in-Visit.buffer c.visit-answer.new.buffer) _ c.as_mut_slice.result.now
+    (visit_heard c.visit-answer.result (with_items c.in-Visit.buffer c.visit-answer.new.buffer) _ c.deref_mut.result.now
     (refill c.in-Visit.buffer c.visit-answer.new.buffer n) c.visit-answer.ensures.buffer)
 
 pub returns-in-Activate : goal.returns-in-Activate
