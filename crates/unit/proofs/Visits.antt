@@ -48,25 +48,29 @@ module _ (φ : Fields) (e : Effect) (l : List Access) (d : ℕ) (buffer : List �
       ∙ joined_end i buffer None m
       ∙ ap (λ xs. joined i buffer (visiting φ e xs d m i)) (sym (drop_all i l (omega arith)))
 
-  -- access number i, made under the effect rule e', which is e
-  module _ (i : ℕ) (a : Access) (lt : i < length l) (e' : Effect) (same : e' ≡ e) (m' : ℕ → Page) where
+  -- access number i, made under the domain d' and the effect rule e', which are d and e
+  module _ (i : ℕ) (a : Access) (lt : i < length l) (d' : ℕ) (under : d' ≡ d) (e' : Effect) (same : e' ≡ e) (m' : ℕ → Page) where
     pub visit_made : (b : ℕ) → i < length buffer
-        → ((rest : List Access) → made_first b (visiting φ e' rest d m' (suc i)) ≡ visiting φ e' (get_or l i a ∷ rest) d m i)
+        → ((rest : List Access) → made_first b (visiting φ e' rest d' m' (suc i)) ≡ visiting φ e' (get_or l i a ∷ rest) d' m i)
         → onward φ e l d (set buffer i b) m' (i + 1) ≡ onward φ e l d buffer m i
     unfolding onward
     visit_made b lb h =
         let s : i + 1 ≡ suc i = omega arith in
+        let Goes : ℕ → Effect → Type 0 = λ x y. made_first b (visiting φ y (drop (i + 1) l) x m' (suc i)) ≡ visiting φ y (get_or l i a ∷ drop (i + 1) l) x m i in
         joined_more i b buffer _ lb
         ∙ ap (λ j. joined i buffer (made_first b (visiting φ e (drop (i + 1) l) d m' j))) s
         ∙ ap (joined i buffer)
-        (subst (λ x. made_first b (visiting φ x (drop (i + 1) l) d m' (suc i)) ≡ visiting φ x (get_or l i a ∷ drop (i + 1) l) d m i) same (h (drop (i + 1) l))
+        (subst (λ x. Goes x e) under (subst (Goes d') same (h (drop (i + 1) l)))
         ∙ ap (λ xs. visiting φ e xs d m i) (sym (drop_more l i a lt)))
 
     pub visit_faulted : (r : Reason)
-        → ((rest : List Access) → record { made = 0; fault = Some r; bytes = []; left = m' } ≡ visiting φ e' (get_or l i a ∷ rest) d m i)
+        → ((rest : List Access) → record { made = 0; fault = Some r; bytes = []; left = m' } ≡ visiting φ e' (get_or l i a ∷ rest) d' m i)
         → (visited i (Some r) buffer, m') ≡ onward φ e l d buffer m i
     unfolding onward
     visit_faulted r h =
         joined_end i buffer (Some r) m'
         ∙ ap (joined i buffer)
-        (h (drop (i + 1) l) ∙ ap (λ x. visiting φ x (get_or l i a ∷ drop (i + 1) l) d m i) same ∙ ap (λ xs. visiting φ e xs d m i) (sym (drop_more l i a lt)))
+        (h (drop (i + 1) l)
+        ∙ ap (λ x. visiting φ x (get_or l i a ∷ drop (i + 1) l) d' m i) same
+        ∙ ap (λ x. visiting φ e (get_or l i a ∷ drop (i + 1) l) x m i) under
+        ∙ ap (λ xs. visiting φ e xs d m i) (sym (drop_more l i a lt)))

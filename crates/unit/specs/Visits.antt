@@ -12,10 +12,10 @@ abbrev pub fault_at : ℕ → Option ℕ → Option Reason
 fault_at i None = None
 fault_at i (Some n) = Some (by_unit n i)
 
--- a single access: its answer, and the pages after it, which a fault leaves as they are
-abbrev pub answered : Option ℕ → Reply → Answer
-answered None a = accepted a
-answered (Some n) a = refused (by_unit n 0)
+-- a single access at a place: its answer, and the pages after it, which a fault leaves as they are
+abbrev pub answered : ℕ → Option ℕ → Reply → Answer
+answered i None a = accepted a
+answered i (Some n) a = refused (by_unit n i)
 
 abbrev pub pages_unless : Option ℕ → (ℕ → Page) → (ℕ → Page) → ℕ → Page
 pages_unless None m m' = m'
