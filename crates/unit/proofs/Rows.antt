@@ -1,5 +1,5 @@
 -- Rows of the boot table, and the page fields that they set.
-use Rattle.std.proofs.Common.{◌≡◌, ℕ, zero, suc, ◌+◌, ◌-◌, ◌*◌, ◌^◌, ◌%◌, ◌<◌, ◌≤◌, ltb, leb, List, [], ◌∷◌, ◌++◌, length, get_or, take, drop, map, set, replicate, sym, refl, ap, ◌∙◌, inl, inr, arith, rules}
+use Rattle.std.proofs.Common.{◌≡◌, ℕ, zero, suc, ◌+◌, ◌-◌, ◌*◌, ◌^◌, ◌%◌, ◌<◌, ◌≤◌, List, [], ◌∷◌, ◌++◌, length, get_or, take, drop, map, set, replicate, refl, ap, ◌∙◌, inl, inr, arith, rules}
 use mathlib.Core.Path.{fun_ext}
 use lib.Bits.{bit_or}
 use Rattle.std.specs.Simd.{first_chunks}
@@ -7,7 +7,9 @@ use borrow.Rule.Slice.PartMut.{put_mid, mid_of}
 use Rattle.std.proofs.lemmas.List.{get_or_past, get_or-replicate, get_or-map, get_or-append_right, get_or_append_left, get_or-drop, get_or_default, length-take-le, length-drop, length-map, places}
 use Rattle.std.proofs.lemmas.List.Edits.{map_over_more}
 use Rattle.std.proofs.lemmas.Slice.{drop-put_mid}
-use Rattle.std.proofs.lemmas.Bool.{cases_lt, cond-true, cond-false, and_left, and_right, and_from, lt-ltb, le-ltb, le-leb, lt-leb}
+use Rattle.std.proofs.lemmas.Grind.{common_steps}
+use Rattle.std.proofs.lemmas.Bool.{cases_lt}
+use Rattle.std.proofs.lemmas.Bool.Decides.{nat_tests}
 use Rattle.std.proofs.lemmas.Nat.{one_shl}
 use Rattle.vocabulary.specs.declared.access.Right.{Right}
 use Rattle.vocabulary.specs.declared.access.Right.TheVariants.{Read, Write, Execute}
@@ -20,7 +22,7 @@ use Rattle.unit.specs.Rows.{added_on}
 abbrev none : PageFields
 none = record { by_right = replicate 64 0 ∷ replicate 64 0 ∷ replicate 64 0 ∷ [] }
 
-zeros : (n q : ℕ) → get_or (replicate n (zero)) q 0 ≡ 0
+zeros : (n q : ℕ) → get_or (replicate n zero) q 0 ≡ 0
 zeros n q = elim (cases_lt q n) [
   | inl l ↦ get_or-replicate n q 0 0 l
   | inr l ↦ get_or_past _ q 0 (search (rules, places))
@@ -42,34 +44,30 @@ pub context_added : (c i : ℕ) (xs ys : List ℕ) → c < 16 → i < length xs 
     → set ys i (bit_or (get_or ys i 0) (1 * 2 ^ c % 65536)) ≡ map (λ d. with_context d c) (take (i + 1) xs) ++ drop (i + 1) xs
 unfolding with_context
 context_added c i xs ys h l m e =
-    ap (λ b. set ys i (bit_or (get_or ys i 0) b)) (one_shl c 16 h)
-    ∙ map_over_more (λ d. bit_or d (2 ^ c)) xs ys i (get_or ys i 0) l e (get_or_default ys i 0 (get_or ys i 0) m)
+    grind (arith, common_steps, one_shl c 16, map_over_more (λ d. bit_or d (2 ^ c)) xs ys i (get_or ys i 0), get_or_default ys i 0 (get_or ys i 0))
 
--- n fields of xs from f on have the context, and the others stay
-pub row_added : (f n c : ℕ) (xs : List ℕ) (q : ℕ) → f + n ≤ length xs
-    → get_or (put_mid f n xs (map (λ d. with_context d c) (mid_of f n xs))) q 0 ≡ added_on f (f + n) c q (get_or xs q 0)
-row_added f n c xs q h =
+-- the fields xs of a row's pages have its context, and the others stay
+pub row_added : (w : Row) (xs : List ℕ) → w.first + w.count ≤ length xs
+    → (q : ℕ) → get_or (put_mid w.first w.count xs (map (λ d. with_context d w.context) (mid_of w.first w.count xs))) q 0 ≡ added_on w q (get_or xs q 0)
+row_added w xs h q =
+    let f : ℕ = w.first in
+    let e : ℕ = w.first + w.count in
+    let ys : List ℕ = mid_of w.first w.count xs in
+    let zs : List ℕ = put_mid w.first w.count xs (map (λ d. with_context d w.context) ys) in
     elim (cases_lt q f) [
-      | inl l ↦
-          let e : get_or (put_mid f n xs (map (λ d. with_context d c) (mid_of f n xs))) q 0 ≡ get_or xs q 0 = search (rules, places) in
-          e ∙ sym (cond-false _ _ _ (and_left (leb f q) (ltb q (f + n)) (lt-leb f q l)))
-      | inr l ↦ elim (cases_lt q (f + n)) [
+      | inl l ↦ grind (arith, nat_tests, places)
+      | inr l ↦ elim (cases_lt q e) [
         | inl m ↦
-            let k : get_or (mid_of f n xs) (q - f) 0 ≡ get_or xs q 0 = search (rules, places) in
-            let s : q - f < length (mid_of f n xs) = search (rules, places) in
+            let k : get_or ys (q - f) 0 ≡ get_or xs q 0 = search (rules, places) in
+            let s : q - f < length ys = search (rules, places) in
             get_or-append_right (take f xs) _ f q 0 (length-take-le f xs (omega arith)) l
-            ∙ get_or_append_left (map (λ d. with_context d c) (mid_of f n xs)) _ 0 (q - f) (simp length-map s)
-            ∙ get_or-map (λ d. with_context d c) (mid_of f n xs) (q - f) 0 0 s
-            ∙ ap (λ d. with_context d c) k
-            ∙ sym (cond-true _ _ _ (and_from (leb f q) (ltb q (f + n)) (le-leb f q l) (lt-ltb q (f + n) m)))
+            ∙ get_or_append_left (map (λ d. with_context d w.context) ys) _ 0 (q - f) (simp length-map s)
+            ∙ get_or-map (λ d. with_context d w.context) ys (q - f) 0 0 s
+            ∙ grind (arith, nat_tests, k)
         | inr m ↦
-            let s : q ≡ f + n + (q - (f + n)) = omega arith in
-            ap (λ i. get_or (put_mid f n xs (map (λ d. with_context d c) (mid_of f n xs))) i 0) s
-            ∙ sym (get_or-drop (f + n) _ (q - (f + n)) 0)
-            ∙ ap (λ ys. get_or ys (q - (f + n)) 0) (drop-put_mid f n xs _ (f + n) (omega arith) (omega arith) (simp length-map (search (rules, places))))
-            ∙ get_or-drop (f + n) xs (q - (f + n)) 0
-            ∙ ap (λ i. get_or xs i 0) (sym s)
-            ∙ sym (cond-false _ _ _ (and_right (leb f q) (ltb q (f + n)) (le-ltb q (f + n) m)))
+            let s : q ≡ e + (q - e) = omega arith in
+            let n : length (map (λ d. with_context d w.context) ys) ≡ w.count = simp length-map (search (rules, places)) in
+            grind (arith, nat_tests, s, drop-put_mid f w.count xs (map (λ d. with_context d w.context) ys) e (omega arith) (omega arith) n, get_or-drop e zs (q - e) 0, get_or-drop e xs (q - e) 0)
       ]
     ]
 
@@ -84,10 +82,7 @@ pub rows_in_fours : (n : ℕ) (bs : List ℕ) → length bs ≡ n * 4 → rows_o
 rows_in_fours zero [] h = refl
 rows_in_fours zero (a ∷ bs) h = cc
 rows_in_fours (suc n) (a ∷ b ∷ c ∷ d ∷ bs) h = ap (λ ws. row_at (a ∷ b ∷ c ∷ d ∷ []) ∷ ws) (rows_in_fours n bs (omega arith))
-rows_in_fours (suc n) [] h = absurd (omega arith)
-rows_in_fours (suc n) (a ∷ []) h = absurd (omega arith)
-rows_in_fours (suc n) (a ∷ b ∷ []) h = absurd (omega arith)
-rows_in_fours (suc n) (a ∷ b ∷ c ∷ []) h = absurd (omega arith)
+rows_in_fours (suc n) bs h = absurd (omega arith)
 
 pub whole_fours : (n : ℕ) (bs : List ℕ) (i : ℕ) → n * 4 ≤ length bs → i < n → length (get_or (first_chunks 4 n bs) i []) ≡ 4
 whole_fours zero bs i h l = absurd (omega arith)

@@ -1,10 +1,10 @@
 -- The boot table row by row: what is left of it leads to what the whole says.
-use Rattle.std.proofs.Common.{◌≡◌, ℕ, suc, ◌+◌, ◌/◌, ◌%◌, ◌<◌, ◌≤◌, Bool, true, false, cond, eqb, leb, ◌⊎◌, List, [], ◌∷◌, length, get_or, drop, map, find, Some, None, Ok, Err, Option, Result, sym, refl, ap, ◌∙◌, inl, inr, arith}
+use Rattle.std.proofs.Common.{◌≡◌, ℕ, ◌+◌, ◌/◌, ◌%◌, ◌<◌, ◌≤◌, Bool, true, false, cond, ◌⊎◌, List, [], ◌∷◌, length, get_or, drop, map, find, Some, None, Ok, Err, Option, Result, sym, refl, ap, ◌∙◌, inl, inr, arith}
 use mathlib.Core.Path.{fun_ext}
 use Rattle.std.specs.Option.{option_map}
 use Rattle.std.specs.Simd.{first_chunks}
 use Rattle.std.proofs.lemmas.List.{take_all, drop_all, drop_more}
-use Rattle.std.proofs.lemmas.Bool.{cond-true, cond-false, and_from, and_left, and_right, eq-eqb, ne_eqb, le-leb, lt-leb}
+use Rattle.std.proofs.lemmas.Grind.{common_steps}
 use Rattle.vocabulary.specs.Refusals.{Reason, by_reader}
 use Rattle.rules.specs.Boot.{Row, field_of_rows, Booting, table_refused, table_read, row_fits, row_before, rows_from, rows_of, boot_rule}
 use Rattle.rules.specs.Domains.{with_context, Fields}
@@ -61,25 +61,13 @@ onward rows f i p = leads f (rows_from i p (map row_at (drop i rows)))
 
 pub no_table : (bs : List ℕ) → (length bs % 4 ≡ 0 → ⊥) ⊎ (1024 < length bs) → Err (by_reader 1 0) ≡ table_as (boot_rule bs)
 unfolding boot_rule
-no_table bs (inl h) = ap table_as (sym (cond-false _ _ _ (and_left (eqb (length bs % 4) 0) (leb (length bs) 1024) (ne_eqb _ _ h))))
-no_table bs (inr h) = ap table_as (sym (cond-false _ _ _ (and_right (eqb (length bs % 4) 0) (leb (length bs) 1024) (lt-leb _ _ h))))
-
-fits_none : (b : Bool) (v : Row) → None ≡ cond b (Some v) None → b ≡ false
-fits_none true v h = cc
-fits_none false v h = refl
-
-fits_some : (b : Bool) (v w : Row) → Some w ≡ cond b (Some v) None → (b ≡ true) × (w ≡ v)
-fits_some true v w h = (refl, cc)
-fits_some false v w h = cc
+no_table bs (inl h) = grind (arith, common_steps)
+no_table bs (inr h) = grind (arith, common_steps)
 
 module _ (bs : List ℕ) (rows : List (List ℕ)) (front : rows ≡ first_chunks 4 (length bs / 4) bs) where
   pub table_start : (f : Fields) → f ≡ (λ x q. 0) → length bs % 4 ≡ 0 → length bs ≤ 1024 → onward rows f 0 0 ≡ table_as (boot_rule bs)
   unfolding onward boot_rule
-  table_start f none h l =
-      ap (λ f'. leads f' (rows_from 0 0 (map row_at rows))) none
-      ∙ leads_none _
-      ∙ ap (λ ws. table_as (rows_from 0 0 ws)) (ap (map row_at) front ∙ sym (rows_in_fours (length bs / 4) bs (omega arith)))
-      ∙ ap table_as (sym (cond-true _ _ _ (and_from (eqb (length bs % 4) 0) (leb (length bs) 1024) (eq-eqb _ _ h) (le-leb _ _ l))))
+  table_start f none h l = grind (arith, common_steps, leads_none, rows_in_fours (length bs / 4) bs)
 
   pub table_end : (f : Fields) (i p : ℕ) → length rows ≤ i → Ok f ≡ onward rows f i p
   unfolding onward
@@ -101,24 +89,12 @@ module _ (bs : List ℕ) (rows : List (List ℕ)) (front : rows ≡ first_chunks
     found = read ∙ ap (find row_fits) (rows_in_fours 1 (get_or rows i []) whole ∙ ap (λ r. row_at r ∷ []) (take_all 4 (get_or rows i []) (omega (arith, whole))))
 
     pub row_refused : o ≡ None → Err (by_reader 2 i) ≡ onward rows f i p
-    row_refused e = let b = fits_none (row_fits written) written (sym (ap (option_map row_of) e) ∙ found) in sym (rw b at asked)
+    row_refused e = grind (arith, common_steps, asked, found)
 
     module _ (w : code.Row) (e : o ≡ Some w) where
-      fits : (row_fits written ≡ true) × (row_of w ≡ written)
-      fits = fits_some (row_fits written) written (row_of w) (sym (ap (option_map row_of) e) ∙ found)
-
       pub row_misplaced : w.first < p → Err (by_reader 3 i) ≡ onward rows f i p
-      row_misplaced h =
-          let b : leb p written.first ≡ false = ap (λ v. leb p v.first) (sym fits.1) ∙ lt-leb _ _ h in
-          sym (rw (fits.0, b) at asked)
+      row_misplaced h = grind (arith, common_steps, asked, found)
 
       pub row_accepted : p ≤ w.first → (f' : Fields) → f' ≡ row_set (row_of w) f → onward rows f' (i + 1) w.first ≡ onward rows f i p
       unfolding onward
-      row_accepted h f' set =
-          let b : leb p written.first ≡ true = ap (λ v. leb p v.first) (sym fits.1) ∙ le-leb _ _ h in
-          let s : i + 1 ≡ suc i = omega arith in
-          ap (λ g. leads g (rows_from (i + 1) w.first (map row_at (drop (i + 1) rows)))) (set ∙ ap (λ v. row_set v f) fits.1)
-          ∙ ap (λ j. leads (row_set written f) (rows_from j w.first (map row_at (drop (i + 1) rows)))) s
-          ∙ ap (λ v. leads (row_set written f) (rows_from (suc i) v.first (map row_at (drop (i + 1) rows)))) fits.1
-          ∙ sym (leads_more f written _)
-          ∙ sym (rw (fits.0, b) at asked)
+      row_accepted h f' set = grind (arith, common_steps, asked, found, leads_more)

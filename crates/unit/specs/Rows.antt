@@ -13,9 +13,9 @@ use Rattle.unit.specs.Model.{fields_of}
 abbrev pub row_of : code.Row → Row
 row_of w = record { context = w.context; right = right_number w.right; first = w.first; count = w.count }
 
--- contexts d of page q, with c added if the page is one of those from f up to e
-abbrev pub added_on : ℕ → ℕ → ℕ → ℕ → ℕ → ℕ
-added_on f e c q d = cond (nat_le f q && nat_lt q e) (with_context d c) d
+-- contexts d of page q, with the row's context added if the page is one of the row's
+abbrev pub added_on : Row → ℕ → ℕ → ℕ
+added_on w q d = cond (nat_le w.first q && nat_lt q (w.first + w.count)) (with_context d w.context) d
 
 -- whether the row is about right x on page q
 abbrev pub covers : Row → Right → ℕ → Bool

@@ -42,7 +42,7 @@ impl Row {
 
     /// Adds the context to one right's fields of the row's pages.
     fn add_to(&self, fields: &mut [u16; 64])
-        ensures { (q : ℕ) → slice_index fields.new q ≡ added_on self.now.first (self.now.first + self.now.count) self.now.context q (slice_index fields.old q) }
+        ensures { (q : ℕ) → slice_index fields.new q ≡ added_on (row_of self.now) q (slice_index fields.old q) }
     {
         for contexts in &mut fields[self.first..self.first + self.count] {
             *contexts |= 1 << self.context;

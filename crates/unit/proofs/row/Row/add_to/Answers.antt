@@ -2,6 +2,7 @@ use Rattle.std.proofs.Common.{◌≡◌, ◌+◌, ◌-◌, map, append-nil, arit
 use borrow.Rule.Slice.PartMut.{mid_of}
 use Rattle.std.proofs.lemmas.List.{take_all, drop_all}
 use Rattle.rules.specs.Domains.{with_context}
+use Rattle.unit.specs.Rows.{row_of}
 use Rattle.unit.proofs.Rows.{context_added, row_added}
 use Rattle.unit.proofs.row.Row.add_to.Goals as goal
 
@@ -14,4 +15,4 @@ returns c =
     let w = c.args.self.now in
     let n : w.first + w.count - w.first ≡ w.count = omega arith in
     let done : c.loop-contexts.contexts-items ≡ map (λ d. with_context d w.context) (mid_of w.first (w.first + w.count - w.first) c.args.fields.now) = search (rules, take_all, drop_all, append-nil) in
-    λ q. rw (done, n) (row_added w.first w.count w.context c.args.fields.now q (search rules))
+    rw (done, n) (row_added (row_of w) c.args.fields.now (search rules))
