@@ -31,7 +31,7 @@ impl PageFields {
         Ok(())
     }
 
-    /// The byte of a read or a fetch under a domain. Outside a visit the place is 0.
+    /// Makes a read or a fetch under a domain: the byte that it gives. Outside a visit the place is 0.
     pub fn load<M: Memory>(
         &self,
         domain: u16,

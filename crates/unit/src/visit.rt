@@ -70,8 +70,8 @@ impl PageFields {
     {
         let earlier = mem::replace(register, domain);
         let guard = Restore { register, earlier };
-        for (i, access) in accesses.iter().enumerate() {
-            match self.access(*guard.register, memory, *access, i) {
+        for (i, &access) in accesses.iter().enumerate() {
+            match self.access(*guard.register, memory, access, i) {
                 Ok(byte) => buffer[i] = byte,
                 Err(fault) => {
                     return Visited {
