@@ -84,6 +84,7 @@ rows_in_fours zero (a ∷ bs) h = cc
 rows_in_fours (suc n) (a ∷ b ∷ c ∷ d ∷ bs) h = ap (λ ws. row_at (a ∷ b ∷ c ∷ d ∷ []) ∷ ws) (rows_in_fours n bs (omega arith))
 rows_in_fours (suc n) bs h = absurd (omega arith)
 
+-- each of n fours is four bytes
 pub whole_fours : (n : ℕ) (bs : List ℕ) (i : ℕ) → n * 4 ≤ length bs → i < n → length (get_or (first_chunks 4 n bs) i []) ≡ 4
 whole_fours zero bs i h l = absurd (omega arith)
 whole_fours (suc n) bs zero h l = length-take-le 4 bs (omega arith)

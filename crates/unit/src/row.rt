@@ -3,7 +3,7 @@ ghost use Rattle.std.specs.Prelude.{◌+◌, ◌<◌, ◌≤◌};
 use crate::fields::PageFields;
 use vocabulary::access::Right;
 
-/// A row of the boot table: the context that gets a right, the first page and how many pages.
+/// A row of the boot table that fits: the context, the right that it gets, the first page and how many pages.
 #[derive(Clone, Copy)]
 pub(crate) struct Row {
     context: u8,

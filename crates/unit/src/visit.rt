@@ -70,6 +70,7 @@ impl PageFields {
     {
         let earlier = mem::replace(register, domain);
         let guard = Restore { register, earlier };
+        // By index, and not by a chain: each access made puts its byte in its own place, up to the first fault.
         for (i, &access) in accesses.iter().enumerate() {
             match self.access(*guard.register, memory, access, i) {
                 Ok(byte) => buffer[i] = byte,
