@@ -1,5 +1,5 @@
 -- A visit access by access: what is left of it leads to the whole's reply and pages.
-use Rattle.std.proofs.Common.{◌≡◌, ℕ, suc, ◌+◌, ◌<◌, List, [], ◌∷◌, ◌++◌, length, get_or, take, drop, set, Some, None, Option, arith}
+use Rattle.std.proofs.Common.{◌≡◌, ℕ, suc, ◌+◌, ◌<◌, List, [], ◌∷◌, ◌++◌, length, get_or, take, drop, set, Some, None, Option, ap, arith}
 use Rattle.std.proofs.lemmas.List.{append_assoc, take-append-drop, drop-set-lt, drop_more, drop_all, take_more_set}
 use Rattle.std.proofs.lemmas.Grind.{common_steps}
 use Rattle.vocabulary.specs.declared.access.Access.{Access}
@@ -30,9 +30,12 @@ module _ (φ : Fields) (e : Effect) (l : List Access) (d : ℕ) (buffer : List �
   unfolding onward
   visit_whole = grind (arith, common_steps)
 
-  pub visit_ended : (i : ℕ) → i ≡ length l → (visited (length l) None buffer, m) ≡ onward φ e l d buffer m i
+  pub visit_ended : (i : ℕ) (whole : Reply × (ℕ → Page)) → i ≡ length l → onward φ e l d buffer m i ≡ whole
+      → (visited (length l) None buffer ≡ whole.0) × (m ≡ whole.1)
   unfolding onward
-  visit_ended i q = grind (arith, common_steps, joined_end i buffer None m, drop_all)
+  visit_ended i whole q leads =
+      let e : (visited (length l) None buffer, m) ≡ whole = grind (arith, common_steps, joined_end i buffer None m, drop_all) in
+      (ap (λ x. x.0) e, ap (λ x. x.1) e)
 
   -- access number i, made under the domain d' and the effect rule e', which are d and e
   module _ (i : ℕ) (a : Access) (lt : i < length l) (d' : ℕ) (under : d' ≡ d) (e' : Effect) (same : e' ≡ e) (m' : ℕ → Page) where
@@ -42,8 +45,10 @@ module _ (φ : Fields) (e : Effect) (l : List Access) (d : ℕ) (buffer : List �
     unfolding onward
     visit_made b lb h = grind (arith, joined_more i b buffer (visiting φ e' (drop (i + 1) l) d' m' (suc i)), h (drop (i + 1) l), drop_more l i a)
 
-    pub visit_faulted : (r : Reason)
+    pub visit_faulted : (r : Reason) (whole : Reply × (ℕ → Page))
         → ((rest : List Access) → record { made = 0; fault = Some r; bytes = []; left = m' } ≡ visiting φ e' (get_or l i a ∷ rest) d' m i)
-        → (visited i (Some r) buffer, m') ≡ onward φ e l d buffer m i
+        → onward φ e l d buffer m i ≡ whole → (visited i (Some r) buffer ≡ whole.0) × (m' ≡ whole.1)
     unfolding onward
-    visit_faulted r h = grind (arith, common_steps, joined_end i buffer (Some r) m', h (drop (i + 1) l), drop_more l i a)
+    visit_faulted r whole h leads =
+        let k : (visited i (Some r) buffer, m') ≡ whole = grind (arith, common_steps, joined_end i buffer (Some r) m', h (drop (i + 1) l), drop_more l i a) in
+        (ap (λ x. x.0) k, ap (λ x. x.1) k)
