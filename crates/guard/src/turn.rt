@@ -79,21 +79,24 @@ impl<'a, F: OneWay, M: Memory> Turn<'a, F, M> {
     pub fn read(&mut self, address: usize) -> Result<u8, Refusal>
         ensures { Obeys (during F.OneWay M.Memory self.old) (app (rules.access (Read address))) (told value result) (during F.OneWay M.Memory self.new) }
     {
-        unit::visit::read(self.fields, self.register, &self.memory, address)
+        self.fields
+            .load(self.register, &self.memory, Access::Read(address), 0)
     }
 
     /// Fetches a byte under the domain in the register.
     pub fn fetch(&mut self, address: usize) -> Result<u8, Refusal>
         ensures { Obeys (during F.OneWay M.Memory self.old) (app (rules.access (Fetch address))) (told value result) (during F.OneWay M.Memory self.new) }
     {
-        unit::visit::fetch(self.fields, self.register, &self.memory, address)
+        self.fields
+            .load(self.register, &self.memory, Access::Fetch(address), 0)
     }
 
     /// Writes a byte under the domain in the register.
     pub fn write(&mut self, address: usize, byte: u8) -> Result<(), Refusal>
         ensures { Obeys (during F.OneWay M.Memory self.old) (app (rules.access (Write address byte))) (told (λ _. done) result) (during F.OneWay M.Memory self.new) }
     {
-        unit::visit::write(self.fields, self.register, &mut self.memory, address, byte)
+        self.fields
+            .store(self.register, &mut self.memory, address, byte, 0)
     }
 
     /// Makes the accesses in order under the domain that the password opens, up to the first fault.
@@ -113,13 +116,14 @@ impl<'a, F: OneWay, M: Memory> Turn<'a, F, M> {
             return Err(Refusal::ShortBuffer);
         }
         let opened = self.slots.find(self.slot, password)?;
-        Ok(unit::visit::visit(
-            self.fields,
-            &mut self.register,
-            &mut self.memory,
-            opened.domain,
-            accesses,
-            buffer,
-        ))
+        Ok(
+            self.fields.visit(
+                &mut self.register,
+                &mut self.memory,
+                opened.domain,
+                accesses,
+                buffer,
+            ),
+        )
     }
 }

@@ -1,80 +1,91 @@
 -- Rows of the boot table, and the page fields that they set.
-use Rattle.std.proofs.Common.{◌≡◌, ℕ, zero, suc, ◌+◌, ◌*◌, ◌^◌, ◌<◌, ◌≤◌, cond, ◌&&◌, ltb, leb, List, ◌∷◌, length, get_or, drop, set, replicate, sym, refl, ap, ◌∙◌, inl, inr, arith}
+use Rattle.std.proofs.Common.{◌≡◌, ℕ, zero, suc, ◌+◌, ◌-◌, ◌*◌, ◌^◌, ◌%◌, ◌<◌, ◌≤◌, List, [], ◌∷◌, ◌++◌, length, get_or, take, drop, map, set, replicate, refl, ap, ◌∙◌, inl, inr, arith, rules}
 use mathlib.Core.Path.{fun_ext}
 use lib.Bits.{bit_or}
-use Rattle.std.proofs.lemmas.List.{get_or_past, drop_more, get_or-set_same, get_or-set_other}
-use Rattle.std.proofs.lemmas.Bool.{cases_eq, cases_lt, cond-true, cond-false, and_left, and_right, and_from, lt-ltb, le-ltb, le-leb, lt-leb}
+use Rattle.std.specs.Simd.{first_chunks}
+use borrow.Rule.Slice.PartMut.{put_mid, mid_of}
+use Rattle.std.proofs.lemmas.List.{get_or_past, get_or-replicate, get_or-map, get_or-append_right, get_or_append_left, get_or-drop, get_or_default, length-take-le, length-drop, length-map, places}
+use Rattle.std.proofs.lemmas.List.Edits.{map_over_more}
+use Rattle.std.proofs.lemmas.Slice.{drop-put_mid}
+use Rattle.std.proofs.lemmas.Grind.{common_steps}
+use Rattle.std.proofs.lemmas.Bool.{cases_lt}
+use Rattle.std.proofs.lemmas.Bool.Decides.{nat_tests}
+use Rattle.std.proofs.lemmas.Nat.{one_shl}
 use Rattle.vocabulary.specs.declared.access.Right.{Right}
 use Rattle.vocabulary.specs.declared.access.Right.TheVariants.{Read, Write, Execute}
-use Rattle.rules.specs.Boot.{rows_of}
+use Rattle.rules.specs.Boot.{Row, rows_of}
 use Rattle.rules.specs.Domains.{with_context}
 use Rattle.unit.specs.declared.fields.PageFields.{PageFields}
 use Rattle.unit.specs.Model.{fields_of}
 use Rattle.unit.specs.Rows.{added_on}
 
-abbrev none : List ℕ
-none = replicate 64 0
+abbrev none : PageFields
+none = record { by_right = replicate 64 0 ∷ replicate 64 0 ∷ replicate 64 0 ∷ [] }
 
-zeros : (n q : ℕ) → ◌≡◌ {A = ℕ} (get_or (replicate n 0) q 0) 0
-zeros zero q = refl
-zeros (suc n) zero = refl
-zeros (suc n) (suc q) = zeros n q
+zeros : (n q : ℕ) → get_or (replicate n zero) q 0 ≡ 0
+zeros n q = elim (cases_lt q n) [
+  | inl l ↦ get_or-replicate n q 0 0 l
+  | inr l ↦ get_or_past _ q 0 (search (rules, places))
+]
 
-none_at : (x : Right) (q : ℕ) → fields_of (record { readable = none; writable = none; executable = none }) x q ≡ 0
+none_at : (x : Right) (q : ℕ) → fields_of none x q ≡ 0
 none_at Read q = zeros 64 q
 none_at Write q = zeros 64 q
 none_at Execute q = zeros 64 q
 
-pub none_held : fields_of (record { readable = none; writable = none; executable = none }) ≡ (λ x q. 0)
+pub none_held : fields_of none ≡ (λ x q. 0)
 none_held = fun_ext (λ x. fun_ext (none_at x))
 
-pub no_page : (f : PageFields) (x : Right) (q : ℕ) → length f.readable ≤ q → length f.writable ≤ q → length f.executable ≤ q → 0 ≡ fields_of f x q
-no_page f Read q r w e = sym (get_or_past _ q 0 r)
-no_page f Write q r w e = sym (get_or_past _ q 0 w)
-no_page f Execute q r w e = sym (get_or_past _ q 0 e)
+-- ---- a row's context on its pages
 
--- four bytes are a row
-pub row_front : (bs : List ℕ) (n : ℕ) → 4 * n + 4 ≤ length bs
-    → rows_of (drop (4 * n) bs)
-    ≡ record { context = get_or bs (4 * n) 0; right = get_or bs (4 * n + 1) 0; first = get_or bs (4 * n + 2) 0; count = get_or bs (4 * n + 3) 0 } ∷ rows_of (drop (4 * (n + 1)) bs)
-row_front bs n h =
-    let s : ℕ = 4 * n in
-    let a = drop_more bs s 0 (omega arith) in
-    let b = drop_more bs (s + 1) 0 (omega arith) in
-    let c = drop_more bs (s + 2) 0 (omega arith) in
-    let d = drop_more bs (s + 3) 0 (omega arith) in
-    let b' : s + 1 + 1 ≡ s + 2 = omega arith in
-    let c' : s + 2 + 1 ≡ s + 3 = omega arith in
-    let d' : s + 3 + 1 ≡ 4 * (n + 1) = omega arith in
-    let e : drop s bs ≡ get_or bs s 0 ∷ get_or bs (s + 1) 0 ∷ get_or bs (s + 2) 0 ∷ get_or bs (s + 3) 0 ∷ drop (4 * (n + 1)) bs = cc in
-    ap rows_of e
-
--- ---- a row's context, page by page
-
-pub added_none : (f e c q d : ℕ) → e ≤ f → d ≡ added_on f e c q d
-added_none f e c q d h = sym (cond-false (leb f q && ltb q e) (with_context d c) d (elim (cases_lt q f) [
-  | inl l ↦ and_left (leb f q) (ltb q e) (lt-leb f q l)
-  | inr l ↦ and_right (leb f q) (ltb q e) (le-ltb q e (omega arith))
-]))
-
-one_more : (q p : ℕ) → (q ≡ p → ⊥) → ltb q p ≡ ltb q (p + 1)
-one_more q p ne = elim (cases_lt q p) [
-  | inl l ↦ lt-ltb q p l ∙ sym (lt-ltb q (p + 1) (omega arith))
-  | inr l ↦ le-ltb q p l ∙ sym (le-ltb q (p + 1) (omega arith))
-]
-
-pub added_more : (xs ys : List ℕ) (f p c m : ℕ) → f ≤ p → p < length xs → m ≡ 2 ^ c
-    → ((q : ℕ) → get_or xs q 0 ≡ added_on f p c q (get_or ys q 0))
-    → (q : ℕ) → get_or (set xs p (bit_or (get_or xs p 0) m)) q 0 ≡ added_on f (p + 1) c q (get_or ys q 0)
+-- the context goes to one more of the fields xs, of which i have it
+pub context_added : (c i : ℕ) (xs ys : List ℕ) → c < 16 → i < length xs → i < length ys
+    → ys ≡ map (λ d. with_context d c) (take i xs) ++ drop i xs
+    → set ys i (bit_or (get_or ys i 0) (1 * 2 ^ c % 65536)) ≡ map (λ d. with_context d c) (take (i + 1) xs) ++ drop (i + 1) xs
 unfolding with_context
-added_more xs ys f p c m h l e inv q = elim (cases_eq q p) [
-  | inl s ↦
-      let old : get_or xs p 0 ≡ get_or ys p 0 = inv p ∙ cond-false _ _ _ (and_right (leb f p) (ltb p p) (le-ltb p p (omega arith))) in
-      let new : get_or xs p 0 ≡ get_or ys q 0 = old ∙ ap (λ i. get_or ys i 0) (sym s) in
-      ap (λ i. get_or (set xs p (bit_or (get_or xs p 0) m)) i 0) s
-      ∙ get_or-set_same xs p _ 0 l
-      ∙ ap (bit_or (get_or xs p 0)) e
-      ∙ ap (λ d. bit_or d (2 ^ c)) new
-      ∙ sym (cond-true _ _ _ (and_from (leb f q) (ltb q (p + 1)) (le-leb f q (omega arith)) (lt-ltb q (p + 1) (omega arith))))
-  | inr s ↦ get_or-set_other xs p q _ 0 s ∙ inv q ∙ ap (λ b. cond (leb f q && b) (with_context (get_or ys q 0) c) (get_or ys q 0)) (one_more q p s)
-]
+context_added c i xs ys h l m e =
+    grind (arith, common_steps, one_shl c 16, map_over_more (λ d. bit_or d (2 ^ c)) xs ys i (get_or ys i 0), get_or_default ys i 0 (get_or ys i 0))
+
+-- the fields xs of a row's pages have its context, and the others stay
+pub row_added : (w : Row) (xs : List ℕ) → w.first + w.count ≤ length xs
+    → (q : ℕ) → get_or (put_mid w.first w.count xs (map (λ d. with_context d w.context) (mid_of w.first w.count xs))) q 0 ≡ added_on w q (get_or xs q 0)
+row_added w xs h q =
+    let f : ℕ = w.first in
+    let e : ℕ = w.first + w.count in
+    let ys : List ℕ = mid_of w.first w.count xs in
+    let zs : List ℕ = put_mid w.first w.count xs (map (λ d. with_context d w.context) ys) in
+    elim (cases_lt q f) [
+      | inl l ↦ grind (arith, nat_tests, places)
+      | inr l ↦ elim (cases_lt q e) [
+        | inl m ↦
+            let k : get_or ys (q - f) 0 ≡ get_or xs q 0 = search (rules, places) in
+            let s : q - f < length ys = search (rules, places) in
+            get_or-append_right (take f xs) _ f q 0 (length-take-le f xs (omega arith)) l
+            ∙ get_or_append_left (map (λ d. with_context d w.context) ys) _ 0 (q - f) (simp length-map s)
+            ∙ get_or-map (λ d. with_context d w.context) ys (q - f) 0 0 s
+            ∙ grind (arith, nat_tests, k)
+        | inr m ↦
+            let s : q ≡ e + (q - e) = omega arith in
+            let n : length (map (λ d. with_context d w.context) ys) ≡ w.count = simp length-map (search (rules, places)) in
+            grind (arith, nat_tests, s, drop-put_mid f w.count xs (map (λ d. with_context d w.context) ys) e (omega arith) (omega arith) n, get_or-drop e zs (q - e) 0, get_or-drop e xs (q - e) 0)
+      ]
+    ]
+
+-- ---- a table's rows
+
+-- the row that four bytes say
+abbrev pub row_at : List ℕ → Row
+row_at bs = record { context = get_or bs 0 0; right = get_or bs 1 0; first = get_or bs 2 0; count = get_or bs 3 0 }
+
+-- bytes in fours are as many rows
+pub rows_in_fours : (n : ℕ) (bs : List ℕ) → length bs ≡ n * 4 → rows_of bs ≡ map row_at (first_chunks 4 n bs)
+rows_in_fours zero [] h = refl
+rows_in_fours zero (a ∷ bs) h = cc
+rows_in_fours (suc n) (a ∷ b ∷ c ∷ d ∷ bs) h = ap (λ ws. row_at (a ∷ b ∷ c ∷ d ∷ []) ∷ ws) (rows_in_fours n bs (omega arith))
+rows_in_fours (suc n) bs h = absurd (omega arith)
+
+-- each of n fours is four bytes
+pub whole_fours : (n : ℕ) (bs : List ℕ) (i : ℕ) → n * 4 ≤ length bs → i < n → length (get_or (first_chunks 4 n bs) i []) ≡ 4
+whole_fours zero bs i h l = absurd (omega arith)
+whole_fours (suc n) bs zero h l = length-take-le 4 bs (omega arith)
+whole_fours (suc n) bs (suc i) h l = whole_fours n (drop 4 bs) i (simp length-drop (omega arith)) (omega arith)

@@ -1,13 +1,17 @@
 -- The boot table row by row: what is left of it leads to what the whole says.
-use Rattle.std.proofs.Common.{◌≡◌, ℕ, suc, ◌+◌, ◌*◌, ◌%◌, ◌<◌, ◌≤◌, Bool, true, false, cond, eqb, leb, ◌⊎◌, List, [], ◌∷◌, length, drop, Some, None, Ok, Err, Option, Result, sym, refl, ap, ◌∙◌, inl, inr, arith}
+use Rattle.std.proofs.Common.{◌≡◌, ℕ, ◌+◌, ◌/◌, ◌%◌, ◌<◌, ◌≤◌, Bool, true, false, cond, ◌⊎◌, List, [], ◌∷◌, length, get_or, drop, map, find, Some, None, Ok, Err, Option, Result, sym, refl, ap, ◌∙◌, inl, inr, arith}
 use mathlib.Core.Path.{fun_ext}
-use Rattle.std.proofs.lemmas.List.{drop_all}
-use Rattle.std.proofs.lemmas.Bool.{cond-true, cond-false, and_from, and_left, and_right, eq-eqb, ne_eqb, le-leb, lt-leb}
+use Rattle.std.specs.Option.{option_map}
+use Rattle.std.specs.Simd.{first_chunks}
+use Rattle.std.proofs.lemmas.List.{take_all, drop_all, drop_more}
+use Rattle.std.proofs.lemmas.Grind.{common_steps}
 use Rattle.vocabulary.specs.Refusals.{Reason, by_reader}
 use Rattle.rules.specs.Boot.{Row, field_of_rows, Booting, table_refused, table_read, row_fits, row_before, rows_from, rows_of, boot_rule}
 use Rattle.rules.specs.Domains.{with_context, Fields}
-use Rattle.unit.specs.Rows.{row_fault, covers, row_set, table_as}
+use Rattle.unit.specs.declared.row.Row as code
+use Rattle.unit.specs.Rows.{row_of, covers, row_set, table_as}
 use Rattle.unit.proofs.Masks.{contexts_swap}
+use Rattle.unit.proofs.Rows.{row_at, rows_in_fours, whole_fours}
 
 -- ---- rows set in any order give the same fields
 
@@ -19,7 +23,7 @@ swap true false d v w = refl
 swap false true d v w = refl
 swap false false d v w = refl
 
-pub rows_swap : (v w : Row) (f : Fields) → row_set v (row_set w f) ≡ row_set w (row_set v f)
+rows_swap : (v w : Row) (f : Fields) → row_set v (row_set w f) ≡ row_set w (row_set v f)
 rows_swap v w f = fun_ext (λ x. fun_ext (λ q. swap (covers v x q) (covers w x q) (f x q) v.context w.context))
 
 -- fields with rows set, the first of them first
@@ -50,56 +54,47 @@ leads_more : (f : Fields) (w : Row) (b : Booting) → leads f (row_before w b) �
 leads_more f w (table_refused e) = refl
 leads_more f w (table_read ws) = refl
 
--- a row's questions, and then the rest
-abbrev unless_refused : Option Reason → Booting → Booting
-unless_refused None b = b
-unless_refused (Some e) b = table_refused e
+-- ---- the rows from number i on, where the row before has first page p
 
-questions : (x y : Bool) (e d : Reason) (b : Booting)
-    → cond x (cond y b (table_refused e)) (table_refused d) ≡ unless_refused (cond x (cond y None (Some e)) (Some d)) b
-questions true true e d b = refl
-questions true false e d b = refl
-questions false y e d b = refl
+unfoldable pub onward : List (List ℕ) → Fields → ℕ → ℕ → Result Fields Reason
+onward rows f i p = leads f (rows_from i p (map row_at (drop i rows)))
 
--- ---- the table from row i on, where the row before has first page p
-
-unfoldable pub onward : List ℕ → Fields → ℕ → ℕ → Result Fields Reason
-onward bs f i p = leads f (rows_from i p (rows_of (drop (4 * i) bs)))
-
-module _ (bs : List ℕ) (f : Fields) where
-  pub table_start : f ≡ (λ x q. 0) → length bs % 4 ≡ 0 → length bs ≤ 1024 → onward bs f 0 0 ≡ table_as (boot_rule bs)
-  unfolding onward boot_rule
-  table_start none h l =
-      ap (λ f'. leads f' (rows_from 0 0 (rows_of bs))) none
-      ∙ leads_none _
-      ∙ ap table_as (sym (cond-true _ _ _ (and_from (eqb (length bs % 4) 0) (leb (length bs) 1024) (eq-eqb _ _ h) (le-leb _ _ l))))
-
-  pub table_end : (i p : ℕ) → length bs ≤ 4 * i → Ok f ≡ onward bs f i p
-  unfolding onward
-  table_end i p h = ap (λ xs. leads f (rows_from i p (rows_of xs))) (sym (drop_all (4 * i) bs h))
-
-  module _ (i p : ℕ) (w : Row) (front : rows_of (drop (4 * i) bs) ≡ w ∷ rows_of (drop (4 * (i + 1)) bs)) where
-    row_asked : (o : Option Reason) → o ≡ row_fault i p w
-        → onward bs f i p ≡ leads f (unless_refused o (row_before w (rows_from (suc i) w.first (rows_of (drop (4 * (i + 1)) bs)))))
-    unfolding onward
-    row_asked o h =
-        ap (λ ws. leads f (rows_from i p ws)) front
-        ∙ ap (leads f)
-        (questions (row_fits w) (leb p w.first) _ _ _
-        ∙ ap (λ x. unless_refused x (row_before w (rows_from (suc i) w.first (rows_of (drop (4 * (i + 1)) bs))))) (sym h))
-
-    pub row_accepted : (f' : Fields) → f' ≡ row_set w f → None ≡ row_fault i p w → onward bs f' (i + 1) w.first ≡ onward bs f i p
-    unfolding onward
-    row_accepted f' set h =
-        let s : i + 1 ≡ suc i = omega arith in
-        ap (λ g. leads g (rows_from (i + 1) w.first (rows_of (drop (4 * (i + 1)) bs)))) set
-        ∙ ap (λ j. leads (row_set w f) (rows_from j w.first (rows_of (drop (4 * (i + 1)) bs)))) s
-        ∙ sym (row_asked None h ∙ leads_more f w _)
-
-    pub row_refused : (e : Reason) → Some e ≡ row_fault i p w → Err e ≡ onward bs f i p
-    row_refused e h = sym (row_asked (Some e) h)
-
-pub no_table : (bs : List ℕ) → (length bs % 4 ≡ 0 → ⊥) ⊎ ((length bs % 4 ≡ 0) × (1024 < length bs)) → Err (by_reader 1 0) ≡ table_as (boot_rule bs)
+pub no_table : (bs : List ℕ) → (length bs % 4 ≡ 0 → ⊥) ⊎ (1024 < length bs) → Err (by_reader 1 0) ≡ table_as (boot_rule bs)
 unfolding boot_rule
-no_table bs (inl h) = ap table_as (sym (cond-false _ _ _ (and_left (eqb (length bs % 4) 0) (leb (length bs) 1024) (ne_eqb _ _ h))))
-no_table bs (inr h) = ap table_as (sym (cond-false _ _ _ (and_right (eqb (length bs % 4) 0) (leb (length bs) 1024) (lt-leb _ _ h.1))))
+no_table bs (inl h) = grind (arith, common_steps)
+no_table bs (inr h) = grind (arith, common_steps)
+
+module _ (bs : List ℕ) (rows : List (List ℕ)) (front : rows ≡ first_chunks 4 (length bs / 4) bs) where
+  pub table_start : (f : Fields) → f ≡ (λ x q. 0) → length bs % 4 ≡ 0 → length bs ≤ 1024 → onward rows f 0 0 ≡ table_as (boot_rule bs)
+  unfolding onward boot_rule
+  table_start f none h l = grind (arith, common_steps, leads_none, rows_in_fours (length bs / 4) bs)
+
+  pub table_end : (f : Fields) (i p : ℕ) → length rows ≤ i → Ok f ≡ onward rows f i p
+  unfolding onward
+  table_end f i p h = ap (λ xs. leads f (rows_from i p (map row_at xs))) (sym (drop_all i rows h))
+
+  -- row number i, as it is read
+  module _ (many : length rows ≡ length bs / 4) (f : Fields) (i p : ℕ) (within : i < length rows) (o : Option code.Row) (read : option_map row_of o ≡ find row_fits (rows_of (get_or rows i []))) where
+    abbrev written : Row
+    written = row_at (get_or rows i [])
+
+    whole : length (get_or rows i []) ≡ 4
+    whole = ap (λ xs. length (get_or xs i [])) front ∙ whole_fours (length bs / 4) bs i (omega arith) (omega arith)
+
+    asked : onward rows f i p ≡ leads f (rows_from i p (written ∷ map row_at (drop (i + 1) rows)))
+    unfolding onward
+    asked = ap (λ xs. leads f (rows_from i p (map row_at xs))) (drop_more rows i [] within)
+
+    found : option_map row_of o ≡ find row_fits (written ∷ [])
+    found = read ∙ ap (find row_fits) (rows_in_fours 1 (get_or rows i []) whole ∙ ap (λ r. row_at r ∷ []) (take_all 4 (get_or rows i []) (omega (arith, whole))))
+
+    pub row_refused : o ≡ None → Err (by_reader 2 i) ≡ onward rows f i p
+    row_refused e = grind (arith, common_steps, asked, found)
+
+    module _ (w : code.Row) (e : o ≡ Some w) where
+      pub row_misplaced : w.first < p → Err (by_reader 3 i) ≡ onward rows f i p
+      row_misplaced h = grind (arith, common_steps, asked, found)
+
+      pub row_accepted : p ≤ w.first → (f' : Fields) → f' ≡ row_set (row_of w) f → onward rows f' (i + 1) w.first ≡ onward rows f i p
+      unfolding onward
+      row_accepted h f' set = grind (arith, common_steps, asked, found, leads_more)

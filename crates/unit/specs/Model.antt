@@ -1,10 +1,15 @@
--- Page fields and answers of the code, in the rules' words.
-use Rattle.std.specs.Prelude.{slice_index}
+-- Page fields of the code, in the rules' words.
+use Rattle.std.specs.Prelude.{ℕ, [], slice_index, slice_index_or}
+use Rattle.vocabulary.specs.declared.access.Right.{Right}
 use Rattle.vocabulary.specs.declared.access.Right.TheVariants.{Read, Write, Execute}
 use Rattle.rules.specs.Domains.{Fields}
 use Rattle.unit.specs.declared.fields.PageFields.{PageFields}
 
+-- where the fields of a right stand
+abbrev pub place_of : Right → ℕ
+place_of Read = 0
+place_of Write = 1
+place_of Execute = 2
+
 abbrev pub fields_of : PageFields → Fields
-fields_of f Read q = slice_index f.readable q
-fields_of f Write q = slice_index f.writable q
-fields_of f Execute q = slice_index f.executable q
+fields_of f x q = slice_index (slice_index_or f.by_right (place_of x) []) q

@@ -1,27 +1,23 @@
 -- Rows of the boot table and what the reader answers, in the rules' words.
-use Rattle.std.specs.Prelude.{ℕ, ◌+◌, Bool, cond, ◌&&◌, Some, None, Ok, Err, Option, Result, ◌==◌, nat_le, nat_lt}
+use Rattle.std.specs.Prelude.{ℕ, ◌+◌, Bool, cond, ◌&&◌, Ok, Err, Result, ◌==◌, nat_le, nat_lt}
 use Rattle.vocabulary.specs.Accesses.{right_number}
 use Rattle.vocabulary.specs.declared.access.Right.{Right}
 use Rattle.vocabulary.specs.declared.refusal.Refusal.{Refusal}
-use Rattle.vocabulary.specs.Refusals.{Reason, reason, by_reader}
-use Rattle.rules.specs.Boot.{Row, field_of_rows, Booting, table_refused, table_read, row_fits}
+use Rattle.vocabulary.specs.Refusals.{Reason, reason}
+use Rattle.rules.specs.Boot.{Row, field_of_rows, Booting, table_refused, table_read}
 use Rattle.rules.specs.Domains.{with_context, Fields}
 use Rattle.unit.specs.declared.fields.PageFields.{PageFields}
-use Rattle.unit.specs.declared.reader.Row as code
+use Rattle.unit.specs.declared.row.Row as code
 use Rattle.unit.specs.Model.{fields_of}
 
 abbrev pub row_of : code.Row → Row
-row_of w = record { context = w.context; right = w.right; first = w.first; count = w.count }
+row_of w = record { context = w.context; right = right_number w.right; first = w.first; count = w.count }
 
--- why row number i is refused after a row with first page p, if it is
-abbrev pub row_fault : ℕ → ℕ → Row → Option Reason
-row_fault i p w = cond (row_fits w) (cond (nat_le p w.first) None (Some (by_reader 3 i))) (Some (by_reader 2 i))
+-- contexts d of page q, with the row's context added if the page is one of the row's
+abbrev pub added_on : Row → ℕ → ℕ → ℕ
+added_on w q d = cond (nat_le w.first q && nat_lt q (w.first + w.count)) (with_context d w.context) d
 
--- contexts d of page q, with c added if the page is one of those from f up to e
-abbrev pub added_on : ℕ → ℕ → ℕ → ℕ → ℕ → ℕ
-added_on f e c q d = cond (nat_le f q && nat_lt q e) (with_context d c) d
-
--- the row is about right x on page q
+-- whether the row is about right x on page q
 abbrev pub covers : Row → Right → ℕ → Bool
 covers w x q = w.right == right_number x && (nat_le w.first q && nat_lt q (w.first + w.count))
 

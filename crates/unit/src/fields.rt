@@ -5,11 +5,9 @@ use vocabulary::access::Right;
 
 /// The page fields: by right and page, the contexts that hold the right on the page. Bit j stands
 /// for context j.
-#[derive(Clone, Copy)]
+#[derive(Clone, Copy, Debug, PartialEq, Eq)]
 pub struct PageFields {
-    pub(crate) readable: [u16; 64],
-    pub(crate) writable: [u16; 64],
-    pub(crate) executable: [u16; 64],
+    pub(crate) by_right: [[u16; 64]; 3],
 }
 
 impl PageFields {
@@ -18,9 +16,7 @@ impl PageFields {
         ensures { fields_of result ≡ (λ x q. 0) }
     {
         PageFields {
-            readable: [0; 64],
-            writable: [0; 64],
-            executable: [0; 64],
+            by_right: [[0; 64]; 3],
         }
     }
 
@@ -28,11 +24,7 @@ impl PageFields {
     pub fn field(&self, right: Right, page: usize) -> u16
         ensures { result ≡ fields_of self.now right page }
     {
-        let field = match right {
-            Right::Read => &self.readable,
-            Right::Write => &self.writable,
-            Right::Execute => &self.executable,
-        };
-        if page < 64 { field[page] } else { 0 }
+        let pages = &self.by_right[right as usize];
+        pages.get(page).copied().unwrap_or(0)
     }
 }

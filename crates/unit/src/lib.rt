@@ -2,7 +2,8 @@
 //! checks each access by them.
 #![tactic(auto)]
 
-mod check;
+mod access;
 pub mod fields;
 pub mod reader;
+mod row;
 pub mod visit;
