@@ -2,11 +2,10 @@
 use Rattle.std.proofs.Common.{◌≡◌, ℕ, ◌<◌, ◌≤◌, true, leb, List, length, Some, Option, sym, ap, ◌∙◌}
 use Rattle.std.proofs.lemmas.Bool.{cond-true, lt-ltb, le-leb, and_from}
 use Rattle.vocabulary.specs.declared.parameter.Parameter.{Parameter}
-use Rattle.vocabulary.specs.Refusals.{Reason}
 use Rattle.one_way.specs.Chains.{chain}
 use Rattle.one_way.specs.OneWay.{Meaning}
 use Rattle.memory.specs.Pages.{Page, put}
-use Rattle.rules.specs.Console.{Register, Slot, Outcome, refuse, accept, refused, accepted, done, answer_of, after, is_none}
+use Rattle.rules.specs.Console.{Register, Slot, Outcome, accept, accepted, done, answer_of, after, is_none}
 use Rattle.rules.specs.Calls.{create_rule, admit, with_slot, new_slot}
 use Rattle.table.specs.Model.{console_with, Answers, Leaves}
 
@@ -19,11 +18,6 @@ module _ (way : Meaning) (f : ℕ → Option Slot) (s : ℕ) (p : Parameter) (w 
       sym (cond-true _ _ _ (lt-ltb s 8 l)
       ∙ cond-true _ _ _ free
       ∙ cond-true _ _ _ (and_from (leb 1 (length ds)) (leb (length ds) 8) (le-leb 1 (length ds) some) (le-leb (length ds) 8 few)))
-
-  -- the chain is not admitted
-  pub not_created : (x : Reason) → ((o : Outcome) → refuse x ≡ admit way.greatest p (chain way.H p (length ds) w) o)
-      → Answers f (refused x) (λ k. create_rule way k s p w ds) × Leaves f f (λ k. create_rule way k s p w ds)
-  not_created x a = ((λ g t m. ap answer_of (a _ ∙ first_asked g t m)), (λ g t m. ap (after (console_with f g t m)) (a _ ∙ first_asked g t m)))
 
   -- it is admitted, and the slots are h afterwards
   pub created : ((o : Outcome) → o ≡ admit way.greatest p (chain way.H p (length ds) w) o)

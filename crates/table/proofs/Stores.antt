@@ -1,10 +1,9 @@
--- What holds of every entry of a list still holds after a store, where the entry stored has it.
-use Rattle.std.proofs.Common.{◌≡◌, ℕ, ◌<◌, Bool, true, List, length, get_or, set, ap, ◌∙◌, inl, inr}
-use Rattle.std.proofs.lemmas.List.{get_or-set_same, get_or-set_other}
-use Rattle.std.proofs.lemmas.Bool.{cases_eq}
+-- A record stored in a slot.
+use Rattle.std.proofs.Common.{◌≡◌, ℕ, ◌<◌, length, set, Some, rules}
+use Rattle.memory.specs.Pages.{put}
+use Rattle.table.specs.declared.slot.Slot.{Slot}
+use Rattle.table.specs.declared.slot.SlotTable.{SlotTable}
+use Rattle.table.specs.Model.{slot_of, slots_of}
 
-pub still : {A : Type 0} (P : A → Bool) (l : List A) (d a : A) (s : ℕ) → s < length l → ((k : ℕ) → P (get_or l k d) ≡ true) → P a ≡ true → (k : ℕ) → P (get_or (set l s a) k d) ≡ true
-still P l d a s h f e k = elim (cases_eq k s) [
-  | inl q ↦ ap (λ t. P (get_or (set l s a) t d)) q ∙ ap P (get_or-set_same l s a d h) ∙ e
-  | inr ne ↦ ap P (get_or-set_other l s k a d ne) ∙ f k
-]
+pub stored : (t : SlotTable) (i : ℕ) (s : Slot) → i < length t.slots → slots_of (record { slots = set t.slots i (Some s) }) ≡ put (slots_of t) i (Some (slot_of s))
+stored t i s l = search rules

@@ -6,7 +6,6 @@ ghost use Rattle.rules.specs.LookUp.{look_up, domain_at, search_slots, place_of,
 ghost use Rattle.vocabulary.specs.declared.refusal.Refusal.TheVariants.{NotFound};
 ghost use Rattle.table.specs.Model.{slot_of, slots_of, found_in, found_at, Answers, Leaves, Turns, Closes};
 ghost use Rattle.rules.specs.Told.{told};
-ghost use Rattle.table.specs.Sound.{counted, apart, within_reach};
 
 use crate::chain::new_chain;
 use crate::slot::{Opened, Slot, SlotTable};
@@ -41,11 +40,11 @@ impl SlotTable {
         if !self.is_free(slot) {
             return Err(Refusal::SlotTaken);
         }
-        if domains.len() == 0 || domains.len() > 8 {
+        if domains.is_empty() || domains.len() > 8 {
             return Err(Refusal::DomainCount);
         }
         let passwords = new_chain(function, parameter, master, domains.len())?;
-        self.store(slot, Slot::new(parameter, passwords, domains));
+        self.slots[slot] = Some(Slot::new(parameter, passwords, domains));
         Ok(())
     }
 
@@ -54,21 +53,7 @@ impl SlotTable {
         requires { slot < 8 }
         ensures { result ≡ is_none (slots_of self.now slot) }
     {
-        match &self.slots[slot] {
-            Some(_) => false,
-            None => true,
-        }
-    }
-
-    // Stores a sound record.
-    fn store(&mut self, slot: usize, app: Slot)
-        requires slot { slot < 8 }
-        requires count { counted (Some app) ≡ true }
-        requires distinct { apart (Some app) ≡ true }
-        requires within { within_reach (Some app) ≡ true }
-        ensures { slots_of self.new ≡ put (slots_of self.old) slot (Some (slot_of app)) }
-    {
-        self.slots[slot] = Some(app);
+        self.slots[slot].is_none()
     }
 
     /// Frees a slot.
@@ -114,6 +99,7 @@ impl SlotTable {
 
     /// Looks `w` up for the app in a slot: its own chain comes first, then the other taken slots from 0
     /// upwards.
+    #[tactic(auto, unfolding(rules::specs::LookUp::look_up))]
     pub fn find(&self, own: usize, w: u64) -> Result<Opened, Refusal>
         requires { own < 8 }
         ensures found { found_in result ≡ look_up (slots_of self.now) own w }
@@ -129,10 +115,7 @@ impl SlotTable {
                 });
             }
         }
-        match self.elsewhere(own, w) {
-            Some(opened) => Ok(opened),
-            None => Err(Refusal::NotFound),
-        }
+        self.elsewhere(own, w).ok_or(Refusal::NotFound)
     }
 
     // The search through the slots other than the app's own, whose chain lacks `w`.
@@ -143,21 +126,21 @@ impl SlotTable {
         ensures domain { IfSome result (λ x. x.domain ≡ domain_at (slots_of self.now) x.found.slot x.found.place) }
     {
         let mut opened = None;
-        'search: for slot in 0..8 {
+        'search: for (slot, entry) in self.slots.iter().enumerate() {
             if slot == own {
                 continue;
             }
-            if let Some(app) = &self.slots[slot] {
-                let passwords = app.places();
-                for place in 0..app.length {
-                    if passwords[place] == w {
-                        let found = Found { slot, place };
-                        opened = Some(Opened {
-                            found,
-                            domain: app.domains[place],
-                        });
-                        break 'search;
-                    }
+            let Some(app) = entry else {
+                continue;
+            };
+            for (place, password) in app.passwords().iter().enumerate() {
+                if *password == w {
+                    let found = Found { slot, place };
+                    opened = Some(Opened {
+                        found,
+                        domain: app.domains[place],
+                    });
+                    break 'search;
                 }
             }
         }
@@ -178,10 +161,14 @@ impl SlotTable {
         ensures state { Leaves (slots_of self.old) (slots_of self.new) (λ k. need (k.slots own) out_of_turn (λ σ. grant_rule k own σ w place context)) }
         ensures taken { is_none (slots_of self.new own) ≡ false }
     {
-        let app = self.app(own);
-        let domain = app.granted(w, place, context)?;
-        self.store(own, app.with_domain(place, domain));
-        Ok(domain)
+        match &mut self.slots[own] {
+            Some(app) => {
+                let domain = app.granted(w, place, context)?;
+                *app = app.with_domain(place, domain);
+                Ok(domain)
+            }
+            None => unreachable!(),
+        }
     }
 
     /// Removes a context likewise.
@@ -198,10 +185,14 @@ impl SlotTable {
         ensures state { Leaves (slots_of self.old) (slots_of self.new) (λ k. need (k.slots own) out_of_turn (λ σ. revoke_rule k own σ w place context)) }
         ensures taken { is_none (slots_of self.new own) ≡ false }
     {
-        let app = self.app(own);
-        let domain = app.revoked(w, place, context)?;
-        self.store(own, app.with_domain(place, domain));
-        Ok(domain)
+        match &mut self.slots[own] {
+            Some(app) => {
+                let domain = app.revoked(w, place, context)?;
+                *app = app.with_domain(place, domain);
+                Ok(domain)
+            }
+            None => unreachable!(),
+        }
     }
 
     /// The password `n` places after `w` in the chain of the app in a taken slot.
@@ -211,7 +202,10 @@ impl SlotTable {
         ensures answer { Answers (slots_of self.now) (told value result) (λ k. need (k.slots own) out_of_turn (λ σ. derive_rule k σ w n)) }
         ensures state { Leaves (slots_of self.now) (slots_of self.now) (λ k. need (k.slots own) out_of_turn (λ σ. derive_rule k σ w n)) }
     {
-        self.app(own).derived(w, n)
+        match &self.slots[own] {
+            Some(app) => app.derived(w, n),
+            None => unreachable!(),
+        }
     }
 
     /// Gives the app in a taken slot a new parameter and its chain, made whole beside the old one.
@@ -228,24 +222,13 @@ impl SlotTable {
         ensures state { Leaves (slots_of self.old) (slots_of self.new) (λ k. need (k.slots own) out_of_turn (λ σ. rekey_rule F.OneWay.meaning k own σ w parameter)) }
         ensures taken { is_none (slots_of self.new own) ≡ false }
     {
-        let app = self.app(own);
-        let passwords = app.rekeyed(function, w, parameter)?;
-        self.store(own, app.with_chain(parameter, passwords));
-        Ok(())
-    }
-
-    // The record of the app in a taken slot.
-    fn app(&self, own: usize) -> Slot
-        requires slot { own < 8 }
-        requires taken { is_none (slots_of self.now own) ≡ false }
-        ensures app { slots_of self.now own ≡ Some (slot_of result) }
-        ensures count { counted (Some result) ≡ true }
-        ensures distinct { apart (Some result) ≡ true }
-        ensures within { within_reach (Some result) ≡ true }
-    {
-        match &self.slots[own] {
-            Some(app) => *app,
-            None => unreachable(),
+        match &mut self.slots[own] {
+            Some(app) => {
+                let passwords = app.rekeyed(function, w, parameter)?;
+                *app = app.with_chain(parameter, passwords);
+                Ok(())
+            }
+            None => unreachable!(),
         }
     }
 }

@@ -1,67 +1,53 @@
-use Rattle.std.proofs.Common.{◌≡◌, get_or, IfSome, Some, None, sym, refl, ap, ◌∙◌, subst, arith, rules}
+use Rattle.std.proofs.Common.{◌≡◌, get_or, Some, None, sym, ap, ◌∙◌, arith, rules}
 use Rattle.std.proofs.lemmas.List.{get_or-take}
-use Rattle.rules.specs.LookUp.{place_of, passwords_of, domains_of, domain_at}
+use Rattle.rules.specs.LookUp.{place_of, passwords_of, domains_of}
 use Rattle.table.specs.Model.{entry_of, slots_of, found_at}
 use Rattle.table.proofs.Search.{place_skip, place_hit, place_end}
-use Rattle.table.proofs.LookUp.{read_at, pass, hit, end}
+use Rattle.table.proofs.LookUp.{entry_at, pass, hit, end}
 use Rattle.table.proofs.slot.SlotTable.elsewhere.Goals as goal
-use Rattle.table.proofs.slot.SlotTable.elsewhere.Goals.{in-Some+else-loop-place-test, in_default}
 
 pub search-preserved-then-slot-own : goal.search-preserved-then-slot-own
-search-preserved-then-slot-own c = (
-  pass (slots_of c.args.self.now) c.args.w c.search.slot c.search-test.true
+search-preserved-then-slot-own c = record {
+  rest = pass (slots_of c.args.self.now) c.args.w c.search.slot c.search-test.true
       (ap (λ s. place_of c.args.w (passwords_of (slots_of c.args.self.now s))) c.if-slot-own.true ∙ c.requires.lacks)
-      ∙ c.search.invariant.0,
-  c.search.invariant.1,
-)
+      ∙ c.search.invariant.rest;
+  nothing = c.search.invariant.nothing;
+}
 
-pub loop-place-init : goal.loop-place-init
-loop-place-init c = (refl, c.search.invariant.1, search rules)
+pub search-preserved-in_default : goal.search-preserved-in_default
+search-preserved-in_default c =
+    let e : slots_of c.args.self.now c.search.slot ≡ entry_of None = entry_at c.args.self.now c.search.slot _ None (search rules) c.in_default.is in record {
+      rest = pass (slots_of c.args.self.now) c.args.w c.search.slot c.search-test.true (ap (λ o. place_of c.args.w (passwords_of o)) e) ∙ c.search.invariant.rest;
+      nothing = c.search.invariant.nothing;
+    }
 
 pub loop-place-preserved : goal.loop-place-preserved
-loop-place-preserved c = (
-  place_skip _ _ c.loop-place.invariant.2 _ _ c.loop-place-test.true
-      (λ q. c.if-passwords-place.false (ap (λ ps. get_or ps c.loop-place.place 0) c.places-passwords.ensures.same ∙ q))
-      ∙ c.loop-place.invariant.0,
-  c.loop-place.invariant.1,
-  c.loop-place.invariant.2,
-)
+loop-place-preserved c = record {
+  rest = place_skip _ _ _ c.loop-place-test.true c.if-password-w.false ∙ c.loop-place.invariant.rest;
+  nothing = c.loop-place.invariant.nothing;
+}
 
 pub search-preserved : goal.search-preserved
 search-preserved c =
-    elim c.match-self-slot.branch [
-      | in-Some+else-loop-place-test v ↦
-          let e : get_or c.args.self.now.slots c.search.slot None ≡ Some v.in-Some.app = read_at c.args.self.now.slots c.search.slot _ None _ (search rules) v.in-Some.is in (
-            pass (slots_of c.args.self.now) c.args.w c.search.slot c.search-test.true
-                (ap (λ o. place_of c.args.w (passwords_of (entry_of o))) e ∙ sym v.loop-place.invariant.0 ∙ place_end _ _ v.loop-place.invariant.2 _ _ v.loop-place-test.false)
-                ∙ c.search.invariant.0,
-            v.opened-is ∙ v.loop-place.invariant.1,
-          )
-      | in_default v ↦
-          let e : get_or c.args.self.now.slots c.search.slot None ≡ None = read_at c.args.self.now.slots c.search.slot _ None _ (search rules) v.in_default.is in (
-            pass (slots_of c.args.self.now) c.args.w c.search.slot c.search-test.true (ap (λ o. place_of c.args.w (passwords_of (entry_of o))) e)
-                ∙ c.search.invariant.0,
-            v.opened-is ∙ c.search.invariant.1,
-          )
-    ]
-
-pub returns-after-search : goal.returns-after-search
-returns-after-search c =
-    let e : c.search.slot ≡ 8 = omega arith in
-    record {
-      found = ap found_at c.search.invariant.1 ∙ end (slots_of c.args.self.now) c.args.w c.search.slot e ∙ c.search.invariant.0;
-      domain = subst (λ o. IfSome o (λ x. x.domain ≡ domain_at (slots_of c.args.self.now) x.found.slot x.found.place)) (sym c.search.invariant.1) tt;
+    let e : slots_of c.args.self.now c.search.slot ≡ entry_of (Some c.in-Some.app) = entry_at c.args.self.now c.search.slot _ _ (search rules) c.in-Some.is in record {
+      rest = pass (slots_of c.args.self.now) c.args.w c.search.slot c.search-test.true
+          (ap (λ o. place_of c.args.w (passwords_of o)) e ∙ sym c.loop-place.invariant.rest ∙ place_end _ _ _ c.loop-place-test.false)
+          ∙ c.search.invariant.rest;
+      nothing = c.loop-place.invariant.nothing;
     }
 
-pub returns-then-passwords-place : goal.returns-then-passwords-place
-returns-then-passwords-place c =
-    let e : get_or c.args.self.now.slots c.search.slot None ≡ Some c.in-Some.app = read_at c.args.self.now.slots c.search.slot _ None _ (search rules) c.in-Some.is in
-    record {
+pub returns-after-search-clause-found : goal.returns-after-search-clause-found
+returns-after-search-clause-found c =
+    let e : c.search.slot ≡ 8 = omega arith in
+    ap found_at c.search.invariant.nothing ∙ end (slots_of c.args.self.now) c.args.w c.search.slot e ∙ c.search.invariant.rest
+
+pub returns-then-password-w : goal.returns-then-password-w
+returns-then-password-w c =
+    let e : slots_of c.args.self.now c.search.slot ≡ entry_of (Some c.in-Some.app) = entry_at c.args.self.now c.search.slot _ _ (search rules) c.in-Some.is in
+    let i = c.loop-place.place in record {
       found =
-          hit (slots_of c.args.self.now) c.args.w c.search.slot c.loop-place.place c.search-test.true
-          (sym (place_hit _ _ c.loop-place.invariant.2 _ _ c.loop-place-test.true (sym (ap (λ ps. get_or ps c.loop-place.place 0) c.places-passwords.ensures.same) ∙ c.if-passwords-place.true)) ∙ c.loop-place.invariant.0 ∙ sym (ap (λ o. place_of c.args.w (passwords_of (entry_of o))) e))
-          ∙ c.search.invariant.0;
-      domain =
-          sym (get_or-take c.in-Some.app.length c.in-Some.app.domains c.loop-place.place 0 c.loop-place-test.true)
-          ∙ sym (ap (λ o. get_or (domains_of (entry_of o)) c.loop-place.place 0) e);
+          hit (slots_of c.args.self.now) c.args.w c.search.slot i c.search-test.true
+          (sym (place_hit _ _ _ c.loop-place-test.true c.if-password-w.true) ∙ c.loop-place.invariant.rest ∙ sym (ap (λ o. place_of c.args.w (passwords_of o)) e))
+          ∙ c.search.invariant.rest;
+      domain = sym (get_or-take c.in-Some.app.length c.in-Some.app.domains i 0 (search rules)) ∙ sym (ap (λ o. get_or (domains_of o) i 0) e);
     }
