@@ -40,7 +40,7 @@ module _ {F M : Type 0} (way : Meaning) (pages : M → Pages) (effect : M → Ef
   during t =
       record {
         machine = record { way = way; effect = effect t.memory; field = fields_of t.fields.now };
-        console = record { slots = slots_of t.slots.now; register = holding t.register; turn_of = Some t.slot; pages = (pages t.memory).page };
+        console = record { slots = slots_of t.app.slots.now; register = holding t.register; turn_of = Some t.app.own; pages = (pages t.memory).page };
       }
 
   -- a turn that was opened, or the console that was given back

@@ -10,6 +10,7 @@ ghost use Rattle.guard.specs.Model.{Obeys, between, during, opened, told_opened,
 use crate::state::{Console, Tables, Turn};
 use memory::Memory;
 use one_way::OneWay;
+use table::running::Running;
 use table::slot::SlotTable;
 use unit::reader::read_table;
 use vocabulary::parameter::Parameter;
@@ -68,24 +69,29 @@ impl<'a, F: OneWay, M: Memory> Console<'a, F, M> {
     pub fn turn(self, slot: usize) -> Result<Turn<'a, F, M>, (Console<'a, F, M>, Refusal)>
         ensures { Obeys (between F.OneWay.meaning M.Memory.pages M.Memory.effect self.entry) (exec (rules.turn slot)) (told_opened result) (opened F.OneWay.meaning M.Memory.pages M.Memory.effect result) }
     {
-        match self.slots.saved(slot) {
-            Ok(register) => {
-                let Console {
+        let Console {
+            function,
+            memory,
+            fields,
+            slots,
+        } = self;
+        match Running::open(slots, slot) {
+            Ok((app, register)) => Ok(Turn {
+                function,
+                memory,
+                fields,
+                app,
+                register,
+            }),
+            Err((slots, refusal)) => {
+                let console = Console {
                     function,
                     memory,
                     fields,
                     slots,
-                } = self;
-                Ok(Turn {
-                    function,
-                    memory,
-                    fields,
-                    slots,
-                    slot,
-                    register,
-                })
+                };
+                Err((console, refusal))
             }
-            Err(refusal) => Err((self, refusal)),
         }
     }
 }

@@ -1,0 +1,186 @@
+ghost use Rattle.std.specs.Prelude.{◌≡◌, ◌<◌, false, IfSome, IfOk, IfErr, Some, None};
+ghost use Rattle.rules.specs.Console.{done, value, need, out_of_turn, is_none};
+ghost use Rattle.rules.specs.Calls.{turn_rule, grant_rule, revoke_rule, derive_rule, rekey_rule};
+ghost use Rattle.rules.specs.LookUp.{look_up, domain_at, search_slots, place_of, passwords_of};
+ghost use Rattle.rules.specs.Told.{told};
+ghost use Rattle.vocabulary.specs.declared.refusal.Refusal.TheVariants.{NotFound};
+ghost use Rattle.table.specs.Model.{slot_of, slots_of, found_in, found_at, Answers, Leaves, Closes};
+
+use crate::slot::{Opened, Slot, SlotTable};
+use one_way::OneWay;
+use vocabulary::found::Found;
+use vocabulary::parameter::Parameter;
+use vocabulary::refusal::Refusal;
+
+/// The slot table in the turn of the app in a slot, which stays taken until the turn closes.
+pub struct Running<'a> {
+    slots: &'a mut SlotTable,
+    own: usize,
+    ghost seated: { own < 8 },
+    ghost taken: { is_none (slots_of slots.now own) ≡ false },
+}
+
+impl<'a> Running<'a> {
+    ghost use Rattle.table.specs.Turns.{SameTurn, told_opened, Opens};
+
+    /// Opens the turn of the app in a slot, and answers its saved register too. A refusal gives the table back.
+    pub fn open(
+        slots: &'a mut SlotTable,
+        slot: usize,
+    ) -> Result<(Running<'a>, u16), (&'a mut SlotTable, Refusal)>
+        ensures answer { Answers (slots_of slots.old) (told_opened result) (λ k. turn_rule k slot) }
+        ensures state { Opens (slots_of slots.old) result slot }
+    {
+        if slot >= 8 {
+            return Err((slots, Refusal::NoSuchSlot));
+        }
+        let register = match &slots.slots[slot] {
+            Some(app) => app.saved,
+            None => return Err((slots, Refusal::SlotFree)),
+        };
+        Ok((Running { slots, own: slot }, register))
+    }
+
+    /// Looks at the table, and at the slot of the app.
+    pub fn inspect(&self) -> (&SlotTable, usize)
+        ensures table { result.0.now ≡ self.now.slots.now }
+        ensures own { result.1 ≡ self.now.own }
+    {
+        (&*self.slots, self.own)
+    }
+
+    // The record of the app.
+    fn app(&self) -> &Slot
+        ensures { slots_of self.now.slots.now self.now.own ≡ Some (slot_of result.now) }
+    {
+        let slots = &*self.slots;
+        match &slots.slots[self.own] {
+            Some(app) => app,
+            None => unreachable!(),
+        }
+    }
+
+    /// Closes the turn: the register is saved.
+    pub fn close(self, register: u16) -> &'a mut SlotTable
+        ensures state { Closes (slots_of self.entry.slots.now) (slots_of result.now) self.entry.own register }
+        ensures same { result.ghost_name ≡ self.entry.slots.ghost_name }
+    {
+        let Running { slots, own } = self;
+        if let Some(app) = &mut slots.slots[own] {
+            *app = app.with_register(register);
+        }
+        slots
+    }
+
+    /// Looks `w` up: the app's own chain comes first, then the other taken slots from 0 upwards.
+    #[tactic(auto, unfolding(rules::specs::LookUp::look_up))]
+    pub fn find(&self, w: u64) -> Result<Opened, Refusal>
+        ensures found { found_in result ≡ look_up (slots_of self.now.slots.now) self.now.own w }
+        ensures domain { IfOk result (λ x. x.domain ≡ domain_at (slots_of self.now.slots.now) x.found.slot x.found.place) }
+        ensures refusal { IfErr result (λ e. e ≡ NotFound) }
+    {
+        let app = self.app();
+        if let Some(place) = app.place(w) {
+            let found = Found {
+                slot: self.own,
+                place,
+            };
+            return Ok(Opened {
+                found,
+                domain: app.domains[place],
+            });
+        }
+        self.elsewhere(w).ok_or(Refusal::NotFound)
+    }
+
+    // The search through the slots other than the app's own, whose chain lacks `w`.
+    fn elsewhere(&self, w: u64) -> Option<Opened>
+        requires { place_of w (passwords_of (slots_of self.now.slots.now self.now.own)) ≡ None }
+        ensures found { found_at result ≡ search_slots (slots_of self.now.slots.now) w 8 0 }
+        ensures domain { IfSome result (λ x. x.domain ≡ domain_at (slots_of self.now.slots.now) x.found.slot x.found.place) }
+    {
+        let mut opened = None;
+        'search: for (slot, entry) in self.slots.slots.iter().enumerate() {
+            if slot == self.own {
+                continue;
+            }
+            let Some(app) = entry else {
+                continue;
+            };
+            for (place, password) in app.passwords().iter().enumerate() {
+                if *password == w {
+                    let found = Found { slot, place };
+                    opened = Some(Opened {
+                        found,
+                        domain: app.domains[place],
+                    });
+                    break 'search;
+                }
+            }
+        }
+        opened
+    }
+
+    /// Adds a context to the domain at a place of the app's chain, and answers that domain.
+    #[tactic(auto, using(crate::proofs::LookUp::among, crate::proofs::LookUp::taken_at, crate::proofs::Stores::kept))]
+    pub fn grant(&mut self, w: u64, place: usize, context: usize) -> Result<u16, Refusal>
+        ensures answer { Answers (slots_of self.old.slots.now) (told value result) (λ k. need (k.slots self.old.own) out_of_turn (λ σ. grant_rule k self.old.own σ w place context)) }
+        ensures state { Leaves (slots_of self.old.slots.now) (slots_of self.new.slots.now) (λ k. need (k.slots self.old.own) out_of_turn (λ σ. grant_rule k self.old.own σ w place context)) }
+        ensures same { SameTurn self.old self.new }
+    {
+        match &mut self.slots.slots[self.own] {
+            Some(app) => {
+                let domain = app.granted(w, place, context)?;
+                *app = app.with_domain(place, domain);
+                Ok(domain)
+            }
+            None => unreachable!(),
+        }
+    }
+
+    /// Removes a context likewise.
+    #[tactic(auto, using(crate::proofs::LookUp::among, crate::proofs::LookUp::taken_at, crate::proofs::Stores::kept))]
+    pub fn revoke(&mut self, w: u64, place: usize, context: usize) -> Result<u16, Refusal>
+        ensures answer { Answers (slots_of self.old.slots.now) (told value result) (λ k. need (k.slots self.old.own) out_of_turn (λ σ. revoke_rule k self.old.own σ w place context)) }
+        ensures state { Leaves (slots_of self.old.slots.now) (slots_of self.new.slots.now) (λ k. need (k.slots self.old.own) out_of_turn (λ σ. revoke_rule k self.old.own σ w place context)) }
+        ensures same { SameTurn self.old self.new }
+    {
+        match &mut self.slots.slots[self.own] {
+            Some(app) => {
+                let domain = app.revoked(w, place, context)?;
+                *app = app.with_domain(place, domain);
+                Ok(domain)
+            }
+            None => unreachable!(),
+        }
+    }
+
+    /// The password `n` places after `w` in the app's own chain.
+    pub fn derive(&self, w: u64, n: usize) -> Result<u64, Refusal>
+        ensures answer { Answers (slots_of self.now.slots.now) (told value result) (λ k. need (k.slots self.now.own) out_of_turn (λ σ. derive_rule k σ w n)) }
+        ensures state { Leaves (slots_of self.now.slots.now) (slots_of self.now.slots.now) (λ k. need (k.slots self.now.own) out_of_turn (λ σ. derive_rule k σ w n)) }
+    {
+        self.app().derived(w, n)
+    }
+
+    /// Gives the app a new parameter and its chain, made whole beside the old one.
+    pub fn rekey<F: OneWay>(
+        &mut self,
+        function: &F,
+        w: u64,
+        parameter: Parameter,
+    ) -> Result<(), Refusal>
+        ensures answer { Answers (slots_of self.old.slots.now) (told (λ _. done) result) (λ k. need (k.slots self.old.own) out_of_turn (λ σ. rekey_rule F.OneWay.meaning k self.old.own σ w parameter)) }
+        ensures state { Leaves (slots_of self.old.slots.now) (slots_of self.new.slots.now) (λ k. need (k.slots self.old.own) out_of_turn (λ σ. rekey_rule F.OneWay.meaning k self.old.own σ w parameter)) }
+        ensures same { SameTurn self.old self.new }
+    {
+        match &mut self.slots.slots[self.own] {
+            Some(app) => {
+                let passwords = app.rekeyed(function, w, parameter)?;
+                *app = app.with_chain(parameter, passwords);
+                Ok(())
+            }
+            None => unreachable!(),
+        }
+    }
+}
