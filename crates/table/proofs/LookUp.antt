@@ -1,27 +1,16 @@
 -- The look-up over the table's slots.
-use Rattle.std.proofs.Common.{◌≡◌, ℕ, suc, ◌+◌, ◌-◌, ◌<◌, length, get_or, Some, None, Option, false, inl, inr, sym, ap, ◌∙◌, arith}
-use Rattle.std.proofs.lemmas.List.{get_or_default, get_or_past}
-use Rattle.std.proofs.lemmas.Bool.{cases_lt}
+use Rattle.std.proofs.Common.{◌≡◌, ℕ, suc, ◌+◌, ◌-◌, ◌<◌, length, get_or, Some, None, Option, sym, ap, ◌∙◌, arith}
+use Rattle.std.proofs.lemmas.List.{get_or_default}
 use Rattle.rules.specs.Console as rules
 use Rattle.rules.specs.Console.{is_none}
 use Rattle.table.specs.declared.slot.Slot.{Slot}
 use Rattle.table.specs.declared.slot.SlotTable.{SlotTable}
-use Rattle.table.specs.Model.{slot_of, entry_of, slots_of}
+use Rattle.table.specs.Model.{entry_of, slots_of}
 use Rattle.rules.specs.LookUp.{place_of, passwords_of, found_in, or_else, search_slots}
 
 -- the slot that the code reads at place i of the table
 pub entry_at : (t : SlotTable) (i : ℕ) (d o : Option Slot) → i < length t.slots → get_or t.slots i d ≡ o → slots_of t i ≡ entry_of o
 entry_at t i d o l e = ap entry_of (get_or_default t.slots i None d l ∙ e)
-
--- a slot that is taken is one of the table's
-pub among : (t : SlotTable) (i : ℕ) → is_none (slots_of t i) ≡ false → i < length t.slots
-among t i h = elim (cases_lt i (length t.slots)) [
-  | inl l ↦ l
-  | inr m ↦ let e = ap (λ o. is_none (entry_of o)) (get_or_past t.slots i None m) in cc
-]
-
-pub taken_at : (t : SlotTable) (i : ℕ) (d : Option Slot) (s : Slot) → is_none (slots_of t i) ≡ false → get_or t.slots i d ≡ Some s → slots_of t i ≡ Some (slot_of s)
-taken_at t i d s h e = entry_at t i d (Some s) (among t i h) e
 
 module _ (f : ℕ → Option rules.Slot) (w : ℕ) where
   search_step : (s : ℕ) → s < 8 → search_slots f w (8 - s) s ≡ or_else (found_in s (place_of w (passwords_of (f s)))) (search_slots f w (8 - (s + 1)) (s + 1))

@@ -1,4 +1,5 @@
-ghost use Rattle.std.specs.Prelude.{◌≡◌, ◌<◌, false, IfSome, IfOk, IfErr, Some, None};
+ghost use Rattle.std.specs.Prelude.{◌≡◌, ◌<◌, false, IfSome, IfOk, IfErr, MatchResult, Some, None};
+ghost use Rattle.memory.specs.Pages.{put};
 ghost use Rattle.rules.specs.Console.{done, value, need, out_of_turn, is_none};
 ghost use Rattle.rules.specs.Calls.{turn_rule, grant_rule, revoke_rule, derive_rule, rekey_rule};
 ghost use Rattle.rules.specs.LookUp.{look_up, domain_at, search_slots, place_of, passwords_of};
@@ -12,7 +13,8 @@ use vocabulary::found::Found;
 use vocabulary::parameter::Parameter;
 use vocabulary::refusal::Refusal;
 
-/// The slot table in the turn of the app in a slot, which stays taken until the turn closes.
+/// The slot table in the turn of the app in a slot, which stays taken until the turn closes. It is not `Drop`: it has
+/// to be closed.
 pub struct Running<'a> {
     slots: &'a mut SlotTable,
     own: usize,
@@ -30,6 +32,7 @@ impl<'a> Running<'a> {
     ) -> Result<(Running<'a>, u16), (&'a mut SlotTable, Refusal)>
         ensures answer { Answers (slots_of slots.old) (told_opened result) (λ k. turn_rule k slot) }
         ensures state { Opens (slots_of slots.old) result slot }
+        ensures same { MatchResult result (λ x. x.0.slots.ghost_name ≡ slots.entry.ghost_name) (λ x. x.0.ghost_name ≡ slots.entry.ghost_name) }
     {
         if slot >= 8 {
             return Err((slots, Refusal::NoSuchSlot));
@@ -60,15 +63,24 @@ impl<'a> Running<'a> {
         }
     }
 
+    // Writes the record of the app whole.
+    fn write(&mut self, app: Slot)
+        ensures slots { slots_of self.new.slots.now ≡ put (slots_of self.old.slots.now) self.old.own (Some (slot_of app)) }
+        ensures same { SameTurn self.old self.new }
+    {
+        if let Some(slot) = &mut self.slots.slots[self.own] {
+            *slot = app;
+        }
+    }
+
     /// Closes the turn: the register is saved.
-    pub fn close(self, register: u16) -> &'a mut SlotTable
+    pub fn close(mut self, register: u16) -> &'a mut SlotTable
         ensures state { Closes (slots_of self.entry.slots.now) (slots_of result.now) self.entry.own register }
         ensures same { result.ghost_name ≡ self.entry.slots.ghost_name }
     {
-        let Running { slots, own } = self;
-        if let Some(app) = &mut slots.slots[own] {
-            *app = app.with_register(register);
-        }
+        let changed = self.app().with_register(register);
+        self.write(changed);
+        let Running { slots, own: _ } = self;
         slots
     }
 
@@ -122,37 +134,29 @@ impl<'a> Running<'a> {
     }
 
     /// Adds a context to the domain at a place of the app's chain, and answers that domain.
-    #[tactic(auto, using(crate::proofs::LookUp::among, crate::proofs::LookUp::taken_at, crate::proofs::Stores::kept))]
     pub fn grant(&mut self, w: u64, place: usize, context: usize) -> Result<u16, Refusal>
         ensures answer { Answers (slots_of self.old.slots.now) (told value result) (λ k. need (k.slots self.old.own) out_of_turn (λ σ. grant_rule k self.old.own σ w place context)) }
         ensures state { Leaves (slots_of self.old.slots.now) (slots_of self.new.slots.now) (λ k. need (k.slots self.old.own) out_of_turn (λ σ. grant_rule k self.old.own σ w place context)) }
         ensures same { SameTurn self.old self.new }
     {
-        match &mut self.slots.slots[self.own] {
-            Some(app) => {
-                let domain = app.granted(w, place, context)?;
-                *app = app.with_domain(place, domain);
-                Ok(domain)
-            }
-            None => unreachable!(),
-        }
+        let app = self.app();
+        let domain = app.granted(w, place, context)?;
+        let changed = app.with_domain(place, domain);
+        self.write(changed);
+        Ok(domain)
     }
 
     /// Removes a context likewise.
-    #[tactic(auto, using(crate::proofs::LookUp::among, crate::proofs::LookUp::taken_at, crate::proofs::Stores::kept))]
     pub fn revoke(&mut self, w: u64, place: usize, context: usize) -> Result<u16, Refusal>
         ensures answer { Answers (slots_of self.old.slots.now) (told value result) (λ k. need (k.slots self.old.own) out_of_turn (λ σ. revoke_rule k self.old.own σ w place context)) }
         ensures state { Leaves (slots_of self.old.slots.now) (slots_of self.new.slots.now) (λ k. need (k.slots self.old.own) out_of_turn (λ σ. revoke_rule k self.old.own σ w place context)) }
         ensures same { SameTurn self.old self.new }
     {
-        match &mut self.slots.slots[self.own] {
-            Some(app) => {
-                let domain = app.revoked(w, place, context)?;
-                *app = app.with_domain(place, domain);
-                Ok(domain)
-            }
-            None => unreachable!(),
-        }
+        let app = self.app();
+        let domain = app.revoked(w, place, context)?;
+        let changed = app.with_domain(place, domain);
+        self.write(changed);
+        Ok(domain)
     }
 
     /// The password `n` places after `w` in the app's own chain.
@@ -174,13 +178,10 @@ impl<'a> Running<'a> {
         ensures state { Leaves (slots_of self.old.slots.now) (slots_of self.new.slots.now) (λ k. need (k.slots self.old.own) out_of_turn (λ σ. rekey_rule F.OneWay.meaning k self.old.own σ w parameter)) }
         ensures same { SameTurn self.old self.new }
     {
-        match &mut self.slots.slots[self.own] {
-            Some(app) => {
-                let passwords = app.rekeyed(function, w, parameter)?;
-                *app = app.with_chain(parameter, passwords);
-                Ok(())
-            }
-            None => unreachable!(),
-        }
+        let app = self.app();
+        let passwords = app.rekeyed(function, w, parameter)?;
+        let changed = app.with_chain(parameter, passwords);
+        self.write(changed);
+        Ok(())
     }
 }

@@ -1,7 +1,8 @@
-ghost use Rattle.std.specs.Prelude.{◌≡◌, ◌<◌, None};
+ghost use Rattle.std.specs.Prelude.{◌≡◌, ◌<◌, Some, None};
+ghost use Rattle.memory.specs.Pages.{put};
 ghost use Rattle.rules.specs.Console.{done, is_none};
 ghost use Rattle.rules.specs.Calls.{create_rule, end_rule};
-ghost use Rattle.table.specs.Model.{slots_of, Answers, Leaves};
+ghost use Rattle.table.specs.Model.{slot_of, slots_of, Answers, Leaves};
 ghost use Rattle.rules.specs.Told.{told};
 
 use crate::chain::new_chain;
@@ -40,7 +41,7 @@ impl SlotTable {
             return Err(Refusal::DomainCount);
         }
         let passwords = new_chain(function, parameter, master, domains.len())?;
-        self.slots[slot] = Some(Slot::new(parameter, passwords, domains));
+        self.store(slot, Slot::new(parameter, passwords, domains));
         Ok(())
     }
 
@@ -50,6 +51,14 @@ impl SlotTable {
         ensures { result ≡ is_none (slots_of self.now slot) }
     {
         self.slots[slot].is_none()
+    }
+
+    // Stores the record of an app.
+    fn store(&mut self, slot: usize, app: Slot)
+        requires { slot < 8 }
+        ensures { slots_of self.new ≡ put (slots_of self.old) slot (Some (slot_of app)) }
+    {
+        self.slots[slot] = Some(app);
     }
 
     /// Frees a slot.
