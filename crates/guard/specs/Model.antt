@@ -1,6 +1,6 @@
 -- The console of the code, as the rules see it, and what a call's contract says.
 use Rattle.std.specs.Prelude.{◌≡◌, ℕ, List, Some, None, Ok, Err, Option, Result}
-use Rattle.vocabulary.specs.Refusals.{reason}
+use Rattle.vocabulary.specs.declared.refusal.Refused.{Refused}
 use Rattle.one_way.specs.declared.OneWay.{Ghosts as Function}
 use Rattle.memory.specs.declared.Memory.{Ghosts as Memory}
 use Rattle.rules.specs.Console as rules
@@ -10,7 +10,6 @@ use Rattle.table.specs.Model.{slots_of}
 use Rattle.table.specs.declared.slot.SlotTable.{SlotTable}
 use Rattle.unit.specs.declared.fields.PageFields.{PageFields}
 use Rattle.guard.specs.declared.inspection.Inspection.{Inspection}
-use Rattle.guard.specs.declared.refused.Refused.{Refused}
 use Rattle.guard.specs.declared.state.Console.{Console}
 use Rattle.guard.specs.declared.state.Turn.{Turn}
 use Rattle.rules.specs.Domains.{Fields}
@@ -49,7 +48,7 @@ module _ {F M : Type 0} (function : Function F) (memory : Memory M) where
 
   -- in a turn
   abbrev pub during : Turn F M → View
-  during t = seen t.fields.now t.slots.now t.register (Some t.slot) t.memory
+  during t = seen t.fields.now t.app.slots.now t.register (Some t.app.own) t.memory
 
   -- what the executive looks at
   abbrev pub inspected : Inspection M → View
@@ -67,11 +66,6 @@ module _ {F M : Type 0} (function : Function F) (memory : Memory M) where
         machine = record { way = function.meaning; effect = memory.effect m; field = fields_in (boot_rule table) };
         boot_page = (memory.pages m).page;
       }
-
--- the answer of a call that gives back what it was given where it is refused
-abbrev pub told_opening : {A B : Type 0} → Result A (Refused B) → Answer
-told_opening (Ok a) = accepted done
-told_opening (Err x) = refused (reason x.refusal)
 
 abbrev pub boot_answer : Booting → Answer
 boot_answer (table_refused f) = refused f

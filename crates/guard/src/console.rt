@@ -1,20 +1,20 @@
 ghost use Rattle.rules.specs.Console.{done, value, accepted, exec, app};
 ghost use Rattle.rules.specs.Console as rules;
-ghost use Rattle.rules.specs.Told.{told};
+ghost use Rattle.rules.specs.Told.{told, told_opening};
 ghost use Rattle.std.specs.Prelude.{◌≡◌, MatchResult};
 ghost use Rattle.rules.specs.Boot.{boot_rule};
 ghost use Rattle.rules.specs.Isolation.{Isolated};
 ghost use Rattle.rules.specs.Runs.{booted};
-ghost use Rattle.guard.specs.Model.{Obeys, between, during, opened, told_opening, boot_answer, setting};
+ghost use Rattle.guard.specs.Model.{Obeys, between, during, opened, boot_answer, setting};
 
-use crate::refused::Refused;
 use crate::state::{Console, Tables, Turn};
 use memory::Memory;
 use one_way::OneWay;
+use table::running::Running;
 use table::slot::SlotTable;
 use unit::reader::read_table;
 use vocabulary::parameter::Parameter;
-use vocabulary::refusal::Refusal;
+use vocabulary::refusal::{Refusal, Refused};
 
 impl<'a, F: OneWay, M: Memory> Console<'a, F, M> {
     /// Boots a console over the tables that the executive lends: reads the boot table, and frees all slots. A
@@ -72,26 +72,33 @@ impl<'a, F: OneWay, M: Memory> Console<'a, F, M> {
     pub fn turn(self, slot: usize) -> Result<Turn<'a, F, M>, Refused<Console<'a, F, M>>>
         ensures { Obeys (between F.OneWay M.Memory self.entry) (exec (rules.turn slot)) (told_opening result) (opened F.OneWay M.Memory result) }
     {
-        match self.slots.saved(slot) {
-            Ok(register) => {
-                let Console {
-                    function,
-                    memory,
-                    fields,
-                    slots,
-                } = self;
-                Ok(Turn {
-                    function,
-                    memory,
-                    fields,
-                    slots,
-                    slot,
-                    register,
-                })
-            }
-            Err(refusal) => Err(Refused {
+        let Console {
+            function,
+            memory,
+            fields,
+            slots,
+        } = self;
+        match Running::open(slots, slot) {
+            Ok((app, register)) => Ok(Turn {
+                function,
+                memory,
+                fields,
+                app,
+                register,
+            }),
+            Err(
+                Refused {
+                    refusal,
+                    given_back: slots,
+                },
+            ) => Err(Refused {
                 refusal,
-                given_back: self,
+                given_back: Console {
+                    function,
+                    memory,
+                    fields,
+                    slots,
+                },
             }),
         }
     }

@@ -26,11 +26,12 @@ impl<'a, F: OneWay, M: Memory> Turn<'a, F, M> {
     pub fn inspect(&self) -> Inspection<'_, M>
         ensures { inspected F.OneWay M.Memory result ≡ during F.OneWay M.Memory self.now }
     {
+        let (slots, own) = self.app.inspect();
         Inspection {
             fields: self.fields,
-            slots: self.slots,
+            slots,
             register: self.register,
-            running: Some(self.slot),
+            running: Some(own),
             memory: &self.memory,
         }
     }

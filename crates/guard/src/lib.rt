@@ -4,6 +4,5 @@
 pub mod console;
 mod inspect;
 pub mod inspection;
-pub mod refused;
 pub mod state;
 pub mod turn;

@@ -1,8 +1,8 @@
-ghost use Rattle.std.specs.Prelude.{◌≡◌, ◌<◌, false, None};
-ghost use Rattle.rules.specs.Console.{is_none};
+ghost use Rattle.std.specs.Prelude.{◌≡◌, None};
 ghost use Rattle.table.specs.Model.{slots_of};
 ghost use Rattle.unit.specs.Model.{fields_of};
 
+use table::running::Running;
 use table::slot::SlotTable;
 use unit::fields::PageFields;
 
@@ -35,14 +35,11 @@ pub struct Console<'a, F, M> {
     pub(crate) slots: &'a mut SlotTable,
 }
 
-/// The console in the turn of the app in `slot`. It is not `Drop`: it has to be closed.
+/// The console in the turn of an app. It is not `Drop`: it has to be closed.
 pub struct Turn<'a, F, M> {
     pub(crate) function: F,
     pub(crate) memory: M,
     pub(crate) fields: &'a PageFields,
-    pub(crate) slots: &'a mut SlotTable,
-    pub(crate) slot: usize,
+    pub(crate) app: Running<'a>,
     pub(crate) register: u16,
-    ghost seated: { slot < 8 },
-    ghost taken: { is_none (slots_of slots.now slot) ≡ false },
 }

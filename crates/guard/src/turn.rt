@@ -24,11 +24,10 @@ impl<'a, F: OneWay, M: Memory> Turn<'a, F, M> {
             function,
             memory,
             fields,
-            slots,
-            slot,
+            app,
             register,
         } = self;
-        slots.save(slot, register);
+        let slots = app.close(register);
         Console {
             function,
             memory,
@@ -41,7 +40,7 @@ impl<'a, F: OneWay, M: Memory> Turn<'a, F, M> {
     pub fn activate(&mut self, password: u64) -> Result<u16, Refusal>
         ensures { Obeys (during F.OneWay M.Memory self.old) (app (rules.activate password)) (told value result) (during F.OneWay M.Memory self.new) }
     {
-        let opened = self.slots.find(self.slot, password)?;
+        let opened = self.app.find(password)?;
         self.register = opened.domain;
         Ok(opened.domain)
     }
@@ -50,29 +49,28 @@ impl<'a, F: OneWay, M: Memory> Turn<'a, F, M> {
     pub fn grant(&mut self, master: u64, place: usize, context: usize) -> Result<u16, Refusal>
         ensures { Obeys (during F.OneWay M.Memory self.old) (app (rules.grant master place context)) (told value result) (during F.OneWay M.Memory self.new) }
     {
-        self.slots.grant(self.slot, master, place, context)
+        self.app.grant(master, place, context)
     }
 
     /// Removes a context likewise.
     pub fn revoke(&mut self, master: u64, place: usize, context: usize) -> Result<u16, Refusal>
         ensures { Obeys (during F.OneWay M.Memory self.old) (app (rules.revoke master place context)) (told value result) (during F.OneWay M.Memory self.new) }
     {
-        self.slots.revoke(self.slot, master, place, context)
+        self.app.revoke(master, place, context)
     }
 
     /// Answers the password `n` places after this one in the app's own chain.
     pub fn derive(&mut self, password: u64, n: usize) -> Result<u64, Refusal>
         ensures { Obeys (during F.OneWay M.Memory self.old) (app (rules.derive password n)) (told value result) (during F.OneWay M.Memory self.new) }
     {
-        self.slots.derive(self.slot, password, n)
+        self.app.derive(password, n)
     }
 
     /// Gives the app a new parameter and its chain. Domains and registers keep their values.
     pub fn rekey(&mut self, master: u64, parameter: Parameter) -> Result<(), Refusal>
         ensures { Obeys (during F.OneWay M.Memory self.old) (app (rules.rekey master parameter)) (told (λ _. done) result) (during F.OneWay M.Memory self.new) }
     {
-        self.slots
-            .rekey(&self.function, self.slot, master, parameter)
+        self.app.rekey(&self.function, master, parameter)
     }
 
     /// Reads a byte under the domain in the register.
@@ -115,7 +113,7 @@ impl<'a, F: OneWay, M: Memory> Turn<'a, F, M> {
         if buffer.len() < accesses.len() {
             return Err(Refusal::ShortBuffer);
         }
-        let opened = self.slots.find(self.slot, password)?;
+        let opened = self.app.find(password)?;
         Ok(
             self.fields.visit(
                 &mut self.register,

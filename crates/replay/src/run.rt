@@ -3,16 +3,17 @@ ghost use Rattle.rules.specs.Boot.{boot_rule};
 ghost use Rattle.rules.specs.Console.{Setting};
 ghost use Rattle.rules.specs.Isolation.{Isolated};
 ghost use Rattle.rules.specs.Runs.{Run};
-ghost use Rattle.guard.specs.Model.{between as view_between, during as view_during, boot_answer, setting, told_opening};
+ghost use Rattle.rules.specs.Told.{told_opening};
+ghost use Rattle.guard.specs.Model.{between as view_between, during as view_during, boot_answer, setting};
 ghost use Rattle.replay.specs.Model.{Performed, Ran, call_of, heard_of, stood, view};
 
 use crate::call::{Call, Outcome, Reply};
 use crate::stage::Stage;
-use guard::refused::Refused;
 use guard::state::{Console, Tables, Turn};
 use memory::Memory;
 use one_way::OneWay;
 use std::alloc::{AllocError, Global};
+use vocabulary::refusal::Refused;
 
 /// Boots a console over lent tables, performs the calls in order, and answers what each was answered, with the
 /// console or the open turn at the end. A table that is refused gives function and memory back. Where there is no

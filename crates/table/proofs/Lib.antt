@@ -1,9 +1,4 @@
-pub mod Changes
-pub mod Creates
-pub mod Derives
 pub mod LookUp
 pub mod Masks
-pub mod Questions
 pub mod Reach
 pub mod Search
-pub mod Stores

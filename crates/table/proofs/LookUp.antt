@@ -1,15 +1,18 @@
 -- The look-up over the table's slots.
-use Rattle.std.proofs.Common.{◌≡◌, ℕ, zero, suc, ◌+◌, ◌-◌, ◌<◌, List, [], ◌∷◌, length, get_or, Some, None, Option, sym, ap, ◌∙◌, arith}
-use Rattle.rules.specs.Console.{Slot}
-use Rattle.rules.specs.LookUp.{place_of, passwords_of, found_in, or_else, search_slots, look_up}
+use Rattle.std.proofs.Common.{◌≡◌, ℕ, suc, ◌+◌, ◌-◌, ◌<◌, length, get_or, Some, None, Option, sym, ap, ◌∙◌, arith}
+use Rattle.std.proofs.lemmas.List.{get_or_default}
+use Rattle.rules.specs.Console as rules
+use Rattle.rules.specs.Console.{is_none}
+use Rattle.table.specs.declared.slot.Slot.{Slot}
+use Rattle.table.specs.declared.slot.SlotTable.{SlotTable}
+use Rattle.table.specs.Model.{entry_of, slots_of}
+use Rattle.rules.specs.LookUp.{place_of, passwords_of, found_in, or_else, search_slots}
 
--- an element read, whatever stands past the end
-pub read_at : {X : Type 0} (xs : List X) (i : ℕ) (x d y : X) → i < length xs → get_or xs i x ≡ y → get_or xs i d ≡ y
-read_at [] i x d y l e = absurd (omega arith)
-read_at (z ∷ xs) zero x d y l e = e
-read_at (z ∷ xs) (suc i) x d y l e = read_at xs i x d y (omega arith) e
+-- the slot that the code reads at place i of the table
+pub entry_at : (t : SlotTable) (i : ℕ) (d o : Option Slot) → i < length t.slots → get_or t.slots i d ≡ o → slots_of t i ≡ entry_of o
+entry_at t i d o l e = ap entry_of (get_or_default t.slots i None d l ∙ e)
 
-module _ (f : ℕ → Option Slot) (w : ℕ) where
+module _ (f : ℕ → Option rules.Slot) (w : ℕ) where
   search_step : (s : ℕ) → s < 8 → search_slots f w (8 - s) s ≡ or_else (found_in s (place_of w (passwords_of (f s)))) (search_slots f w (8 - (s + 1)) (s + 1))
   search_step s l =
       let q : 8 - s ≡ suc (8 - (s + 1)) = omega arith in
@@ -25,11 +28,3 @@ module _ (f : ℕ → Option Slot) (w : ℕ) where
 
   pub end : (s : ℕ) → s ≡ 8 → None ≡ search_slots f w (8 - s) s
   end s q = sym (ap (λ n. search_slots f w (8 - n) n) q)
-
-  pub own_hit : (own i : ℕ) → Some i ≡ place_of w (passwords_of (f own)) → Some (record { slot = own; place = i }) ≡ look_up f own w
-  unfolding look_up
-  own_hit own i h = ap (λ o. or_else (found_in own o) (search_slots f w 8 0)) h
-
-  pub own_miss : (own : ℕ) → place_of w (passwords_of (f own)) ≡ None → search_slots f w 8 0 ≡ look_up f own w
-  unfolding look_up
-  own_miss own h = sym (ap (λ o. or_else (found_in own o) (search_slots f w 8 0)) h)

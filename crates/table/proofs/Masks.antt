@@ -1,10 +1,10 @@
 -- Domains bit by bit: the mask of a context, and domains that lie within others.
-use Rattle.std.proofs.Common.{◌≡◌, ℕ, zero, suc, ◌+◌, ◌*◌, ◌/◌, ◌%◌, ◌^◌, ◌<◌, ◌≤◌, min, true, false, sym, refl, ap, ◌∙◌, mul_comm, pow-suc, div-one, arith, lit≤}
+use Rattle.std.proofs.Common.{◌≡◌, ℕ, zero, suc, ◌+◌, ◌*◌, ◌/◌, ◌%◌, ◌^◌, ◌<◌, ◌≤◌, min, true, sym, refl, ap, ◌∙◌, mul_comm, pow-suc, div-one, arith, lit≤}
 use lib.Arith.{bin_ind}
 use native.Mathlib.Nat.{div-div-eq-div-mul}
 use lib.Bits.{bit_and, bit_or, bit_xor, differ, or_shr, or_comm, or_self, and_step, and_shr, and_mask, xor_step, xor_shr}
 use Rattle.std.proofs.lemmas.Nat.{one_shl}
-use Rattle.std.proofs.lemmas.Bool.{eq-eqb, ne_eqb, eqb-true}
+use Rattle.std.proofs.lemmas.Bool.{eq-eqb, eqb-true}
 use Rattle.rules.proofs.Or.{or_half, or_odd, same_digits, or_assoc}
 use Rattle.rules.specs.Domains.{has, with_context, without_context}
 
@@ -21,9 +21,6 @@ unfolding without_context
 without_mask d c h = ap (λ m. bit_xor d (bit_and d m)) (mask c h)
 
 -- the bit of a context, as the code tests it
-pub has_not : (d c : ℕ) → bit_and (d / 2 ^ c) 1 ≡ 0 → has d c ≡ false
-has_not d c z = ne_eqb (d / 2 ^ c % 2) 1 (λ e. omega (arith, and_mask (d / 2 ^ c) 1, z, e))
-
 pub has_so : (d c : ℕ) → (bit_and (d / 2 ^ c) 1 ≡ 0 → ⊥) → has d c ≡ true
 has_so d c z = eq-eqb (d / 2 ^ c % 2) 1 (omega (arith, and_mask (d / 2 ^ c) 1, z))
 

@@ -1,56 +1,58 @@
--- Searches in a chain, from a place on.
-use Rattle.std.proofs.Common.{◌≡◌, ℕ, suc, ◌+◌, ◌-◌, ◌<◌, ◌≤◌, cond, List, ◌∷◌, length, get_or, take, drop, Some, None, sym, refl, ap, ◌∙◌, arith}
-use Rattle.std.proofs.lemmas.List.{drop_more, drop_all, length-take-le, get_or-take}
+-- Searches in a list of passwords, from a place on.
+use Rattle.std.proofs.Common.{◌≡◌, ℕ, zero, suc, ◌+◌, ◌-◌, ◌<◌, ◌≤◌, true, false, not, cond, eqb, List, [], ◌∷◌, length, get_or, take, drop, Some, None, sym, refl, ap, ◌∙◌, arith}
+use Rattle.std.specs.List.{position, position_from, list_any}
+use Rattle.std.proofs.lemmas.Iterator.Adapters.{position_from-zero}
+use Rattle.std.proofs.lemmas.List.{drop_more, drop_all}
 use Rattle.std.proofs.lemmas.Bool.{cond-true, cond-false, eq-eqb, ne_eqb}
+use Rattle.std.proofs.lemmas.Bool.Decides.{nat_tests}
 use Rattle.rules.specs.Console.{is_at}
-use Rattle.rules.specs.LookUp.{place_from, place_of, repeat_from, first_repeat}
+use Rattle.rules.specs.LookUp.{place_from, place_of, repeat_from}
 
-module _ (xs : List ℕ) (m : ℕ) (k : m ≤ length xs) where
-  size : length (take m xs) ≡ m
-  size = length-take-le m xs k
+same_test : (a b : ℕ) → eqb a b ≡ eqb b a
+same_test a b = grind (arith, nat_tests)
 
-  front : (i : ℕ) → i < m → drop i (take m xs) ≡ get_or xs i 0 ∷ drop (i + 1) (take m xs)
-  front i l =
-      let n : i < length (take m xs) = omega (arith, size, l) in
-      drop_more (take m xs) i 0 n ∙ ap (λ y. y ∷ drop (i + 1) (take m xs)) (get_or-take m xs i 0 l)
+positions : (w i : ℕ) (ps : List ℕ) → position_from (λ p. eqb p w) i ps ≡ place_from i w ps
+positions w i [] = refl
+positions w i (p ∷ ps) =
+    let q : i + 1 ≡ suc i = omega arith in
+    ap (λ b. cond b (Some i) (position_from (λ x. eqb x w) (i + 1) ps)) (same_test p w)
+    ∙ ap (cond (eqb w p) (Some i)) (positions w (i + 1) ps ∙ ap (λ j. place_from j w ps) q)
 
-  pub place_skip : (w i : ℕ) → i < m → (get_or xs i 0 ≡ w → ⊥) → place_from (i + 1) w (drop (i + 1) (take m xs)) ≡ place_from i w (drop i (take m xs))
+pub place_is : (w : ℕ) (ps : List ℕ) → position (λ p. eqb p w) ps ≡ place_of w ps
+place_is w ps = position_from-zero (λ p. eqb p w) ps ∙ positions w 0 ps
+
+-- a password stands first at its place i where no earlier place has it
+first_at : (w i j k : ℕ) (ps : List ℕ) → k ≡ j + i → i < length ps → get_or ps i 0 ≡ w
+    → is_at (place_from j w ps) k ≡ not (list_any (λ p. eqb p w) (take i ps))
+first_at w i j k [] q l e = absurd (omega arith)
+first_at w zero j k (p ∷ ps) q l e = grind (arith, nat_tests)
+first_at w (suc i) j k (p ∷ ps) q l e = grind (arith, nat_tests, first_at w i (suc j) k ps)
+
+module _ (ps : List ℕ) where
+  pub place_skip : (w i : ℕ) → i < length ps → (get_or ps i 0 ≡ w → ⊥) → place_from (i + 1) w (drop (i + 1) ps) ≡ place_from i w (drop i ps)
   place_skip w i l ne =
       let q : suc i ≡ i + 1 = omega arith in
-      sym (ap (place_from i w) (front i l) ∙ cond-false _ _ _ (ne_eqb w (get_or xs i 0) (λ e. ne (sym e))) ∙ ap (λ j. place_from j w (drop (i + 1) (take m xs))) q)
+      sym (ap (place_from i w) (drop_more ps i 0 l) ∙ cond-false _ _ _ (ne_eqb w (get_or ps i 0) (λ e. ne (sym e))) ∙ ap (λ j. place_from j w (drop (i + 1) ps)) q)
 
-  pub place_hit : (w i : ℕ) → i < m → get_or xs i 0 ≡ w → place_from i w (drop i (take m xs)) ≡ Some i
-  place_hit w i l e = ap (place_from i w) (front i l) ∙ cond-true _ _ _ (eq-eqb w (get_or xs i 0) (sym e))
+  pub place_hit : (w i : ℕ) → i < length ps → get_or ps i 0 ≡ w → place_from i w (drop i ps) ≡ Some i
+  place_hit w i l e = ap (place_from i w) (drop_more ps i 0 l) ∙ cond-true _ _ _ (eq-eqb w (get_or ps i 0) (sym e))
 
-  pub place_end : (w i : ℕ) → m ≤ i → place_from i w (drop i (take m xs)) ≡ None
-  place_end w i l =
-      let n : length (take m xs) ≤ i = omega (arith, size, l) in
-      ap (place_from i w) (drop_all i (take m xs) n)
+  pub place_end : (w i : ℕ) → length ps ≤ i → place_from i w (drop i ps) ≡ None
+  place_end w i l = ap (place_from i w) (drop_all i ps l)
 
   -- the lowest place whose password stands at an earlier place too
-  repeat_step : (i : ℕ) → i < m → repeat_from (take m xs) (m - i) i ≡ cond (is_at (place_of (get_or xs i 0) (take m xs)) i) (repeat_from (take m xs) (m - (i + 1)) (i + 1)) (Some i)
+  repeat_step : (i : ℕ) → i < length ps
+      → repeat_from ps (length ps - i) i ≡ cond (not (list_any (λ p. eqb p (get_or ps i 0)) (take i ps))) (repeat_from ps (length ps - (i + 1)) (i + 1)) (Some i)
   repeat_step i l =
-      let q : m - i ≡ suc (m - (i + 1)) = omega arith in
+      let q : length ps - i ≡ suc (length ps - (i + 1)) = omega arith in
       let s : suc i ≡ i + 1 = omega arith in
-      ap (λ n. repeat_from (take m xs) n i) q
-      ∙ ap (λ y. cond (is_at (place_of y (take m xs)) i) (repeat_from (take m xs) (m - (i + 1)) (suc i)) (Some i)) (get_or-take m xs i 0 l)
-      ∙ ap (λ j. cond (is_at (place_of (get_or xs i 0) (take m xs)) i) (repeat_from (take m xs) (m - (i + 1)) j) (Some i)) s
+      ap (λ n. repeat_from ps n i) q
+      ∙ ap (λ b. cond b (repeat_from ps (length ps - (i + 1)) (suc i)) (Some i)) (first_at (get_or ps i 0) i 0 i ps (omega arith) l refl)
+      ∙ ap (λ j. cond (not (list_any (λ p. eqb p (get_or ps i 0)) (take i ps))) (repeat_from ps (length ps - (i + 1)) j) (Some i)) s
 
-  pub repeat_start : repeat_from (take m xs) (m - 0) 0 ≡ first_repeat (take m xs)
-  repeat_start = let q : m - 0 ≡ length (take m xs) = omega (arith, size) in ap (λ n. repeat_from (take m xs) n 0) q
+  pub repeat_skip : (i : ℕ) → i < length ps → list_any (λ p. eqb p (get_or ps i 0)) (take i ps) ≡ false
+      → repeat_from ps (length ps - (i + 1)) (i + 1) ≡ repeat_from ps (length ps - i) i
+  repeat_skip i l h = sym (repeat_step i l ∙ cond-true _ _ _ (ap not h))
 
-  pub repeat_skip : (i j : ℕ) → i < m → i ≡ j → place_from j (get_or xs i 0) (drop j (take m xs)) ≡ place_of (get_or xs i 0) (take m xs)
-      → repeat_from (take m xs) (m - (i + 1)) (i + 1) ≡ repeat_from (take m xs) (m - i) i
-  repeat_skip i j l q h =
-      sym (repeat_step i l ∙ cond-true _ _ _
-      (ap (λ o. is_at o i) (sym h ∙ ap (λ n. place_from n (get_or xs i 0) (drop n (take m xs))) (sym q) ∙ place_hit (get_or xs i 0) i l refl) ∙ eq-eqb i i refl))
-
-  pub repeat_hit : (i j : ℕ) → i < m → j < i → get_or xs j 0 ≡ get_or xs i 0 → place_from j (get_or xs i 0) (drop j (take m xs)) ≡ place_of (get_or xs i 0) (take m xs)
-      → Some i ≡ repeat_from (take m xs) (m - i) i
-  repeat_hit i j l lt e h =
-      let lj : j < m = omega arith in
-      sym (repeat_step i l ∙ cond-false _ _ _
-      (ap (λ o. is_at o i) (sym h ∙ place_hit (get_or xs i 0) j lj e) ∙ ne_eqb j i (λ q. (let f : ⊥ = omega arith in f))))
-
-  pub repeat_end : (i : ℕ) → m ≤ i → repeat_from (take m xs) (m - i) i ≡ None
-  repeat_end i l = let q : m - i ≡ 0 = omega arith in ap (λ n. repeat_from (take m xs) n i) q
+  pub repeat_hit : (i : ℕ) → i < length ps → list_any (λ p. eqb p (get_or ps i 0)) (take i ps) ≡ true → Some i ≡ repeat_from ps (length ps - i) i
+  repeat_hit i l h = sym (repeat_step i l ∙ cond-false _ _ _ (ap not h))

@@ -2,7 +2,7 @@ ghost use Rattle.std.specs.Prelude.{◌≡◌, ◌≤◌, true, take, IfOk};
 ghost use Rattle.one_way.specs.Chains.{chain as passwords_from};
 ghost use Rattle.rules.specs.Console.{Outcome};
 ghost use Rattle.rules.specs.Calls.{admit};
-ghost use Rattle.rules.specs.LookUp.{first_repeat};
+ghost use Rattle.rules.specs.LookUp as rules;
 ghost use Rattle.rules.specs.Told.{asked};
 ghost use Rattle.table.specs.Sound.{no_repeat};
 
@@ -12,15 +12,12 @@ use vocabulary::parameter::Parameter;
 use vocabulary::refusal::Refusal;
 
 /// The lowest place whose password an earlier place holds too.
-fn repeated(passwords: &[u64; 8], length: usize) -> Option<usize>
-    requires { length ≤ 8 }
-    ensures { result ≡ first_repeat (take length passwords.now) }
+fn first_repeat(passwords: &[u64]) -> Option<usize>
+    ensures { result ≡ rules.first_repeat passwords.now }
 {
-    for i in 0..length {
-        for j in 0..i {
-            if passwords[j] == passwords[i] {
-                return Some(i);
-            }
+    for (i, password) in passwords.iter().enumerate() {
+        if passwords[..i].contains(password) {
+            return Some(i);
         }
     }
     None
@@ -33,7 +30,7 @@ pub(crate) fn new_chain<F: OneWay>(
     master: u64,
     length: usize,
 ) -> Result<[u64; 8], Refusal>
-    requires { (1 ≤ length) × (length ≤ 8) }
+    requires { length ≤ 8 }
     ensures apart { IfOk result (λ ps. no_repeat (take length ps) ≡ true) }
     ensures chain { IfOk result (λ ps. take length ps ≡ passwords_from F.OneWay.meaning.H parameter length master) }
     ensures admitted { (o : Outcome) → asked result o ≡ admit F.OneWay.meaning.greatest parameter (passwords_from F.OneWay.meaning.H parameter length master) o }
@@ -42,7 +39,7 @@ pub(crate) fn new_chain<F: OneWay>(
         return Err(Refusal::HighHalf);
     }
     let passwords = chain(function, parameter, master, length);
-    match repeated(&passwords, length) {
+    match first_repeat(&passwords[..length]) {
         Some(place) => Err(Refusal::Repeat(place)),
         None => Ok(passwords),
     }

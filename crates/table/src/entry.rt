@@ -14,31 +14,23 @@ use vocabulary::parameter::Parameter;
 use vocabulary::refusal::Refusal;
 
 impl Slot {
+    /// The passwords of the chain.
+    pub(crate) fn passwords(&self) -> &[u64]
+        ensures { result.now ≡ (slot_of self.now).passwords }
+    {
+        &self.passwords[..self.length]
+    }
+
     /// The place of `w` in the chain.
     pub(crate) fn place(&self, w: u64) -> Option<usize>
-        requires { self.now.length ≤ 8 }
         ensures found { result ≡ place_of w (slot_of self.now).passwords }
         ensures within { IfSome result (λ i. i < self.now.length) }
     {
-        for i in 0..self.length {
-            if self.passwords[i] == w {
-                return Some(i);
-            }
-        }
-        None
-    }
-
-    /// The eight places of the chain.
-    pub(crate) fn places(&self) -> &[u64; 8]
-        ensures same { result.now ≡ self.now.passwords }
-        ensures eight { length self.now.passwords ≡ 8 }
-    {
-        &self.passwords
+        self.passwords().iter().position(|password| *password == w)
     }
 
     /// The questions of revoke, which grant asks too: the master password, the place and the context.
     fn may_change(&self, w: u64, place: usize, context: usize) -> Result<(), Refusal>
-        requires { (1 ≤ self.now.length) × (self.now.length ≤ 8) }
         ensures asked { (o : Outcome) → asked result o ≡ revoke_asks (slot_of self.now) w place context o }
         ensures bounds { OnOk result ((place < self.now.length) × (context < 16)) }
     {
@@ -56,7 +48,6 @@ impl Slot {
 
     /// The domain at a place with a context added.
     pub(crate) fn granted(&self, w: u64, place: usize, context: usize) -> Result<u16, Refusal>
-        requires { (1 ≤ self.now.length) × ((self.now.length ≤ 8) × (all_within self.now.reach (take self.now.length self.now.domains) ≡ true)) }
         ensures asked { (o : Outcome) → asked result o ≡ grant_asks (slot_of self.now) w place context o }
         ensures domain { IfOk result (λ d. d ≡ with_context (slice_index (slot_of self.now).domains place) context) }
         ensures sound { IfOk result (λ d. (place < self.now.length) × (bit_or d self.now.reach ≡ self.now.reach)) }
@@ -70,7 +61,6 @@ impl Slot {
 
     /// The domain at a place with a context removed.
     pub(crate) fn revoked(&self, w: u64, place: usize, context: usize) -> Result<u16, Refusal>
-        requires { (1 ≤ self.now.length) × ((self.now.length ≤ 8) × (all_within self.now.reach (take self.now.length self.now.domains) ≡ true)) }
         ensures asked { (o : Outcome) → asked result o ≡ revoke_asks (slot_of self.now) w place context o }
         ensures domain { IfOk result (λ d. d ≡ without_context (slice_index (slot_of self.now).domains place) context) }
         ensures sound { IfOk result (λ d. (place < self.now.length) × (bit_or d self.now.reach ≡ self.now.reach)) }
@@ -82,7 +72,6 @@ impl Slot {
 
     /// The password `n` places after `w` in the chain.
     pub(crate) fn derived(&self, w: u64, n: usize) -> Result<u64, Refusal>
-        requires { self.now.length ≤ 8 }
         ensures answer { (k : Console) → told value result ≡ answer_of (derive_rule k (slot_of self.now) w n) }
         ensures state { (k : Console) → k ≡ after k (derive_rule k (slot_of self.now) w n) }
     {
@@ -102,7 +91,6 @@ impl Slot {
         w: u64,
         parameter: Parameter,
     ) -> Result<[u64; 8], Refusal>
-        requires { (1 ≤ self.now.length) × (self.now.length ≤ 8) }
         ensures asked { (o : Outcome) → asked result o ≡ rekey_asks F.OneWay.meaning (slot_of self.now) w parameter o }
         ensures chain { IfOk result (λ ps. take (length (slot_of self.now).passwords) ps ≡ new_passwords F.OneWay.meaning (slot_of self.now) w parameter) }
         ensures apart { IfOk result (λ ps. no_repeat (take self.now.length ps) ≡ true) }
@@ -114,62 +102,48 @@ impl Slot {
     }
 
     /// The record with another saved register.
-    pub(crate) fn with_register(self, register: u16) -> Slot
-        ensures slot { slot_of result ≡ with_saved (slot_of self) (holding register) }
-        ensures same { (result.length ≡ self.length) × ((result.passwords ≡ self.passwords) × ((result.domains ≡ self.domains) × (result.reach ≡ self.reach))) }
+    pub(crate) fn with_register(mut self, register: u16) -> Slot
+        ensures { slot_of result ≡ with_saved (slot_of self) (holding register) }
     {
-        let mut changed = self;
-        changed.saved = register;
-        changed
+        self.saved = register;
+        self
     }
 
     /// The record with another domain at a place.
-    pub(crate) fn with_domain(self, place: usize, domain: u16) -> Slot
-        requires few { self.length ≤ 8 }
+    pub(crate) fn with_domain(mut self, place: usize, domain: u16) -> Slot
         requires place { place < self.length }
-        requires held { all_within self.reach (take self.length self.domains) ≡ true }
         requires within { bit_or domain self.reach ≡ self.reach }
-        ensures slot { slot_of result ≡ with_domain (slot_of self) place domain }
-        ensures same { (result.length ≡ self.length) × (result.passwords ≡ self.passwords) }
-        ensures within { all_within result.reach (take result.length result.domains) ≡ true }
+        ensures { slot_of result ≡ with_domain (slot_of self) place domain }
     {
-        let mut changed = self;
-        changed.domains[place] = domain;
-        changed
+        self.domains[place] = domain;
+        self
     }
 
     /// The record with a new parameter and its chain.
-    pub(crate) fn with_chain(self, parameter: Parameter, passwords: [u64; 8]) -> Slot
-        requires { self.length ≤ 8 }
-        ensures slot { slot_of result ≡ with_chain (slot_of self) parameter (take (length (slot_of self).passwords) passwords) }
-        ensures same { (result.length ≡ self.length) × ((result.domains ≡ self.domains) × ((result.reach ≡ self.reach) × (result.passwords ≡ passwords))) }
+    pub(crate) fn with_chain(mut self, parameter: Parameter, passwords: [u64; 8]) -> Slot
+        requires { no_repeat (take self.length passwords) ≡ true }
+        ensures { slot_of result ≡ with_chain (slot_of self) parameter (take (length (slot_of self).passwords) passwords) }
     {
-        let mut changed = self;
-        changed.parameter = parameter;
-        changed.passwords = passwords;
-        changed
+        self.parameter = parameter;
+        self.passwords = passwords;
+        self
     }
 
     /// The record of a new app: the saved register is the domain at place 0, the reach the union of the domains.
     pub(crate) fn new(parameter: Parameter, passwords: [u64; 8], domains: &[u16]) -> Slot
-        requires { (1 ≤ length domains.now) × (length domains.now ≤ 8) }
-        ensures slot { slot_of result ≡ new_slot parameter (take (length domains.now) passwords) domains.now }
-        ensures same { (result.length ≡ length domains.now) × (result.passwords ≡ passwords) }
-        ensures within { all_within result.reach (take result.length result.domains) ≡ true }
+        requires count { (1 ≤ length domains.now) × (length domains.now ≤ 8) }
+        requires distinct { no_repeat (take (length domains.now) passwords) ≡ true }
+        ensures { slot_of result ≡ new_slot parameter (take (length domains.now) passwords) domains.now }
     {
         let mut held = [0u16; 8];
-        let mut reach = 0u16;
-        for (i, domain) in domains.iter().enumerate() {
-            held[i] = *domain;
-            reach |= *domain;
-        }
+        held[..domains.len()].copy_from_slice(domains);
         Slot {
             parameter,
             passwords,
             domains: held,
             length: domains.len(),
             saved: domains[0],
-            reach,
+            reach: domains.iter().fold(0, |reach, domain| reach | domain),
         }
     }
 }

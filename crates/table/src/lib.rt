@@ -3,5 +3,6 @@
 
 mod chain;
 mod entry;
+pub mod running;
 pub mod slot;
 mod table;

@@ -122,3 +122,10 @@ impl Refusal {
         }
     }
 }
+
+/// A refusal that hands back what the call was given.
+#[derive(Debug, Drop)]
+pub struct Refused<T> {
+    pub refusal: Refusal,
+    pub given_back: T,
+}

@@ -6,4 +6,4 @@ use Rattle.guard.proofs.state.Turn.rekey.Goals as goal
 
 -- names no step, so that another call in this one's place leaves the fact open
 pub returns : goal.returns
-returns g c = by_table (λ k. need (k.slots c.args.self.now.slot) out_of_turn (λ σ. rekey_rule g.F.OneWay.meaning k c.args.self.now.slot σ c.args.master c.args.parameter)) refl (assumption c) (assumption c)
+returns g c = by_table (λ k. need (k.slots c.args.self.now.app.own) out_of_turn (λ σ. rekey_rule g.F.OneWay.meaning k c.args.self.now.app.own σ c.args.master c.args.parameter)) refl (assumption c) (assumption c) (assumption c)

@@ -1,21 +1,14 @@
-use Rattle.std.proofs.Common.{◌≤◌, length, sym, refl, ◌∙◌, rules}
-use Rattle.table.proofs.Search.{place_skip, place_hit, place_end}
+use Rattle.std.proofs.Common.{◌≡◌, eqb, ◌∙◌, rules, tests}
+use Rattle.std.specs.List.{position}
+use Rattle.std.proofs.lemmas.Iterator.{YieldsList-from_slice}
+use Rattle.std.proofs.lemmas.Iterator.Search.{position_from_yields_List}
+use Rattle.table.specs.Model.{slot_of}
+use Rattle.table.proofs.Search.{place_is}
 use Rattle.table.proofs.slot.Slot.place.Goals as goal
 
-pub loop-i-init : goal.loop-i-init
-loop-i-init c = refl
-
-pub returns-then-self-i : goal.returns-then-self-i
-returns-then-self-i c =
-    let k : c.args.self.now.length ≤ length c.args.self.now.passwords = search rules in
-    record { found = sym (place_hit _ _ k _ _ c.loop-i-test.true c.if-self-i.true) ∙ c.loop-i.invariant; within = c.loop-i-test.true }
-
-pub loop-i-preserved : goal.loop-i-preserved
-loop-i-preserved c =
-    let k : c.args.self.now.length ≤ length c.args.self.now.passwords = search rules in
-    place_skip _ _ k _ _ c.loop-i-test.true c.if-self-i.false ∙ c.loop-i.invariant
-
-pub returns : goal.returns
-returns c =
-    let k : c.args.self.now.length ≤ length c.args.self.now.passwords = search rules in
-    record { found = sym (place_end _ _ k _ _ c.loop-i-test.false) ∙ c.loop-i.invariant; within = tt }
+pub returns-clause-found : goal.returns-clause-found
+returns-clause-found c =
+    let ps = (slot_of c.args.self.now).passwords in
+    let e : c.position.result ≡ position (λ p. eqb p c.args.w) ps =
+    position_from_yields_List _ _ _ _ c.position.ensures.ran (YieldsList-from_slice ps cc) (λ x b q k. search (rules, tests)) in
+    e ∙ place_is c.args.w ps

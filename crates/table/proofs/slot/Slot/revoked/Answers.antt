@@ -1,27 +1,18 @@
-use Rattle.std.proofs.Common.{◌≡◌, ℕ, ◌<◌, length, get_or, take, sym, ap, ◌∙◌, arith, rules}
+use Rattle.std.proofs.Common.{sym, ap, ◌∙◌}
 use lib.Bits.{bit_or}
-use Rattle.std.proofs.lemmas.List.{get_or-take, length-take-le}
+use Rattle.std.proofs.lemmas.List.{get_or-take}
 use Rattle.rules.specs.Domains.{without_context}
 use Rattle.table.proofs.Masks.{without_mask, loses_within}
-use Rattle.table.proofs.Reach.{within_at}
+use Rattle.table.proofs.Reach.{within_place}
 use Rattle.table.proofs.slot.Slot.revoked.Goals as goal
 
-pub returns : goal.returns
-returns c =
-    let m : ℕ = c.args.self.now.length in
-    let ds = c.args.self.now.domains in
-    let i : ℕ = c.args.place in
-    let n : length (take m ds) ≡ m = length-take-le m ds (search rules) in
-    let b : (i < m) × (c.args.context < 16) = c.in_ok-may_change.ensures.bounds in
-    let e : get_or (take m ds) i 0 ≡ get_or ds i 0 = get_or-take m ds i 0 b.0 in
-    let at_i : i < length (take m ds) = omega (arith, n, b.0) in
-    let new = without_mask (get_or ds i 0) c.args.context b.1 ∙ ap (λ x. without_context x c.args.context) (sym e) in
-    record {
-      asked = c.in_ok-may_change.ensures.asked;
-      domain = new;
-      sound = (
-        b.0,
-        ap (λ x. bit_or x c.args.self.now.reach) new
-            ∙ loses_within (get_or (take m ds) i 0) c.args.self.now.reach c.args.context (within_at c.args.self.now.reach (take m ds) i at_i c.requires.1.1),
-      );
-    }
+pub returns-clause-domain : goal.returns-clause-domain
+returns-clause-domain c =
+    let b = c.in_ok-may_change.ensures.bounds in
+    without_mask _ _ b.1 ∙ ap (λ d. without_context d c.args.context) (sym (get_or-take c.args.self.now.length c.args.self.now.domains c.args.place 0 b.0))
+
+pub returns-clause-sound : goal.returns-clause-sound
+returns-clause-sound c =
+    let b = c.in_ok-may_change.ensures.bounds in
+    let app = c.args.self.now in
+    (b.0, ap (λ d. bit_or d app.reach) (without_mask _ _ b.1) ∙ loses_within _ app.reach _ (within_place app c.args.place b.0))
