@@ -10,8 +10,8 @@ use Rattle.table.specs.Model.{slots_of}
 use Rattle.table.specs.declared.slot.SlotTable.{SlotTable}
 use Rattle.unit.specs.declared.fields.PageFields.{PageFields}
 use Rattle.guard.specs.declared.inspection.Inspection.{Inspection}
-use Rattle.guard.specs.declared.state.Console.{Console}
-use Rattle.guard.specs.declared.state.Turn.{Turn}
+use Rattle.guard.specs.declared.console.Console.{Console}
+use Rattle.guard.specs.declared.turn.Turn.{Turn}
 use Rattle.rules.specs.Domains.{Fields}
 use Rattle.rules.specs.Boot.{Booting, table_refused, table_read, field_of_rows, boot_rule}
 use Rattle.rules.specs.Console.{Setting}

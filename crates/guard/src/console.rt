@@ -5,18 +5,31 @@ ghost use Rattle.std.specs.Prelude.{◌≡◌, MatchResult};
 ghost use Rattle.rules.specs.Boot.{boot_rule};
 ghost use Rattle.rules.specs.Isolation.{Isolated};
 ghost use Rattle.rules.specs.Runs.{booted};
-ghost use Rattle.guard.specs.Model.{Obeys, between, during, opened, boot_answer, setting};
 
-use crate::state::{Console, Tables, Turn};
+use crate::inspection::Inspection;
+use crate::tables::Tables;
+use crate::turn::Turn;
 use memory::Memory;
 use one_way::OneWay;
 use table::running::Running;
 use table::slot::SlotTable;
+use unit::fields::PageFields;
 use unit::reader::read_table;
 use vocabulary::parameter::Parameter;
 use vocabulary::refusal::{Refusal, Refused};
 
+/// The console between turns.
+#[derive(Drop)]
+pub struct Console<'a, F, M> {
+    pub(crate) function: F,
+    pub(crate) memory: M,
+    pub(crate) fields: &'a PageFields,
+    pub(crate) slots: &'a mut SlotTable,
+}
+
 impl<'a, F: OneWay, M: Memory> Console<'a, F, M> {
+    ghost use Rattle.guard.specs.Model.{Obeys, between, inspected, opened, boot_answer, setting};
+
     /// Boots a console over the tables that the executive lends: reads the boot table, and frees all slots. A
     /// refusal gives function and memory back.
     pub fn boot(
@@ -100,6 +113,19 @@ impl<'a, F: OneWay, M: Memory> Console<'a, F, M> {
                     slots,
                 },
             }),
+        }
+    }
+
+    /// Looks at the console between turns: its register is 0, and no slot's turn is open.
+    pub fn inspect(&self) -> Inspection<'_, M>
+        ensures { inspected F.OneWay M.Memory result ≡ between F.OneWay M.Memory self.now }
+    {
+        Inspection {
+            fields: self.fields,
+            slots: self.slots,
+            register: 0,
+            running: None,
+            memory: &self.memory,
         }
     }
 }

@@ -2,7 +2,6 @@
 #![tactic(auto)]
 
 pub mod console;
-mod inspect;
 pub mod inspection;
-pub mod state;
+pub mod tables;
 pub mod turn;

@@ -4,18 +4,31 @@ ghost use Rattle.rules.specs.Told.{told};
 ghost use Rattle.vocabulary.specs.declared.access.Access.TheVariants.{Read, Write, Fetch};
 ghost use Rattle.rules.specs.Calls.{buffer_after};
 ghost use Rattle.unit.specs.Visits.{visit_reply};
-ghost use Rattle.guard.specs.Model.{Obeys, between, during};
 ghost use Rattle.std.specs.Prelude.{◌≡◌};
 
-use crate::state::{Console, Turn};
+use crate::console::Console;
+use crate::inspection::Inspection;
 use memory::Memory;
 use one_way::OneWay;
+use table::running::Running;
+use unit::fields::PageFields;
 use unit::visit::Visited;
 use vocabulary::access::Access;
 use vocabulary::parameter::Parameter;
 use vocabulary::refusal::Refusal;
 
+/// The console in the turn of an app. It is not `Drop`: it has to be closed.
+pub struct Turn<'a, F, M> {
+    pub(crate) function: F,
+    pub(crate) memory: M,
+    pub(crate) fields: &'a PageFields,
+    pub(crate) app: Running<'a>,
+    pub(crate) register: u16,
+}
+
 impl<'a, F: OneWay, M: Memory> Turn<'a, F, M> {
+    ghost use Rattle.guard.specs.Model.{Obeys, between, during, inspected};
+
     /// Ends the turn: the register is saved.
     pub fn close(self) -> Console<'a, F, M>
         ensures { Obeys (during F.OneWay M.Memory self.entry) (exec rules.close) (accepted done) (between F.OneWay M.Memory result) }
@@ -123,5 +136,19 @@ impl<'a, F: OneWay, M: Memory> Turn<'a, F, M> {
                 buffer,
             ),
         )
+    }
+
+    /// Looks at the console in a turn.
+    pub fn inspect(&self) -> Inspection<'_, M>
+        ensures { inspected F.OneWay M.Memory result ≡ during F.OneWay M.Memory self.now }
+    {
+        let (slots, own) = self.app.inspect();
+        Inspection {
+            fields: self.fields,
+            slots,
+            register: self.register,
+            running: Some(own),
+            memory: &self.memory,
+        }
     }
 }

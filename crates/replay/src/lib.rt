@@ -2,6 +2,5 @@
 #![tactic(auto)]
 
 pub mod call;
-mod inspect;
 pub mod run;
 pub mod stage;

@@ -9,7 +9,9 @@ ghost use Rattle.replay.specs.Model.{Performed, Ran, call_of, heard_of, stood, v
 
 use crate::call::{Call, Outcome, Reply};
 use crate::stage::Stage;
-use guard::state::{Console, Tables, Turn};
+use guard::console::Console;
+use guard::tables::Tables;
+use guard::turn::Turn;
 use memory::Memory;
 use one_way::OneWay;
 use std::alloc::{AllocError, Global};

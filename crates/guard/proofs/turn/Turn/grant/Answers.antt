@@ -2,7 +2,7 @@ use Rattle.std.proofs.Common.{refl}
 use Rattle.rules.specs.Console.{need, out_of_turn}
 use Rattle.rules.specs.Calls.{grant_rule}
 use Rattle.guard.proofs.Calls.{by_table}
-use Rattle.guard.proofs.state.Turn.grant.Goals as goal
+use Rattle.guard.proofs.turn.Turn.grant.Goals as goal
 
 -- names no step, so that another call in this one's place leaves the fact open
 pub returns : goal.returns

@@ -2,7 +2,6 @@ ghost use Rattle.std.specs.Prelude.{◌≡◌, None};
 ghost use Rattle.table.specs.Model.{slots_of};
 ghost use Rattle.unit.specs.Model.{fields_of};
 
-use table::running::Running;
 use table::slot::SlotTable;
 use unit::fields::PageFields;
 
@@ -24,22 +23,4 @@ impl Tables {
             slots: SlotTable::new(),
         }
     }
-}
-
-/// The console between turns.
-#[derive(Drop)]
-pub struct Console<'a, F, M> {
-    pub(crate) function: F,
-    pub(crate) memory: M,
-    pub(crate) fields: &'a PageFields,
-    pub(crate) slots: &'a mut SlotTable,
-}
-
-/// The console in the turn of an app. It is not `Drop`: it has to be closed.
-pub struct Turn<'a, F, M> {
-    pub(crate) function: F,
-    pub(crate) memory: M,
-    pub(crate) fields: &'a PageFields,
-    pub(crate) app: Running<'a>,
-    pub(crate) register: u16,
 }
