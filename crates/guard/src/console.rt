@@ -11,7 +11,7 @@ use crate::state::{Console, Tables, Turn};
 use memory::Memory;
 use one_way::OneWay;
 use table::running::Running;
-use table::slot::SlotTable;
+use table::slots::SlotTable;
 use unit::reader::read_table;
 use vocabulary::parameter::Parameter;
 use vocabulary::refusal::Refusal;
