@@ -11,6 +11,4 @@ invariant_of-self-clause-within c =
     ∙ within_set c.args.self.reach _ c.args.place c.args.domain c.requires.within c.args.self.within
 
 pub returns : goal.returns
-returns c =
-    ap (λ ds. record { parameter = c.args.self.parameter; passwords = (slot_of c.args.self).passwords; domains = ds; saved = (slot_of c.args.self).saved; reach = c.args.self.reach })
-    (take-set-lt c.args.self.length c.args.self.domains c.args.place c.args.domain c.requires.place)
+returns c = let e = take-set-lt c.args.self.length c.args.self.domains c.args.place c.args.domain c.requires.place in cc
