@@ -7,7 +7,7 @@ use Rattle.rules.specs.Console as rules
 use Rattle.rules.specs.Console.{Machine, holding, Call, Answer, refused, accepted, done, answer_of, after}
 use Rattle.rules.specs.Calls.{rule}
 use Rattle.table.specs.Model.{slots_of}
-use Rattle.table.specs.declared.slot.SlotTable.{SlotTable}
+use Rattle.table.specs.declared.slots.SlotTable.{SlotTable}
 use Rattle.unit.specs.declared.fields.PageFields.{PageFields}
 use Rattle.guard.specs.declared.inspection.Inspection.{Inspection}
 use Rattle.guard.specs.declared.console.Console.{Console}

@@ -12,7 +12,7 @@ use crate::turn::Turn;
 use memory::Memory;
 use one_way::OneWay;
 use table::running::Running;
-use table::slot::SlotTable;
+use table::slots::SlotTable;
 use unit::fields::PageFields;
 use unit::reader::read_table;
 use vocabulary::parameter::Parameter;

@@ -1,4 +1,4 @@
-use table::slot::SlotTable;
+use table::slots::SlotTable;
 use unit::fields::PageFields;
 
 /// What the executive can look at, between turns and in one: the tables, the register, the slot whose turn it is, and

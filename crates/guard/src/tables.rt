@@ -2,7 +2,7 @@ ghost use Rattle.std.specs.Prelude.{◌≡◌, None};
 ghost use Rattle.table.specs.Model.{slots_of};
 ghost use Rattle.unit.specs.Model.{fields_of};
 
-use table::slot::SlotTable;
+use table::slots::SlotTable;
 use unit::fields::PageFields;
 
 /// The memory of a console's tables, which the executive lends at boot: the page fields and the slots.

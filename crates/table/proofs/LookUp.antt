@@ -4,7 +4,7 @@ use Rattle.std.proofs.lemmas.List.{get_or_default}
 use Rattle.rules.specs.Console as rules
 use Rattle.rules.specs.Console.{is_none}
 use Rattle.table.specs.declared.slot.Slot.{Slot}
-use Rattle.table.specs.declared.slot.SlotTable.{SlotTable}
+use Rattle.table.specs.declared.slots.SlotTable.{SlotTable}
 use Rattle.table.specs.Model.{entry_of, slots_of}
 use Rattle.rules.specs.LookUp.{place_of, passwords_of, found_in, or_else, search_slots}
 

@@ -1,9 +1,10 @@
 -- Domains within the reach, one by one and all together.
-use Rattle.std.proofs.Common.{◌≡◌, ℕ, zero, suc, ◌<◌, true, eqb, List, [], ◌∷◌, get_or, set, take, sym, refl, ap, ◌∙◌}
+use Rattle.std.proofs.Common.{◌≡◌, ℕ, zero, suc, ◌<◌, true, List, [], ◌∷◌, ◌++◌, length, get_or, set, take, sym, refl, ap, ◌∙◌, arith}
 use lib.Bits.{bit_or}
 use Rattle.std.specs.List.{fold}
+use Rattle.std.proofs.Math.Seq.{take-append_seam}
 use Rattle.std.proofs.lemmas.List.{get_or-take}
-use Rattle.std.proofs.lemmas.Bool.{and_from, and_parts, eq-eqb, eqb-true}
+use Rattle.std.proofs.lemmas.Bool.Decides.{nat_tests}
 use Rattle.rules.specs.Domains.{union_from}
 use Rattle.table.specs.declared.slot.Slot.{Slot}
 use Rattle.table.specs.Sound.{all_within}
@@ -13,16 +14,14 @@ module _ (r : ℕ) where
   within_at : (ds : List ℕ) (i : ℕ) → all_within r ds ≡ true → bit_or (get_or ds i 0) r ≡ r
   unfolding all_within
   within_at [] i h = refl
-  within_at (d ∷ ds) zero h = eqb-true _ _ (and_parts (eqb (bit_or d r) r) (all_within r ds) h).0
-  within_at (d ∷ ds) (suc i) h = within_at ds i (and_parts (eqb (bit_or d r) r) (all_within r ds) h).1
+  within_at (d ∷ ds) zero h = grind (arith, nat_tests)
+  within_at (d ∷ ds) (suc i) h = grind (arith, nat_tests, within_at ds i)
 
   pub within_set : (ds : List ℕ) (i d : ℕ) → bit_or d r ≡ r → all_within r ds ≡ true → all_within r (set ds i d) ≡ true
   unfolding all_within
   within_set [] i d e h = h
-  within_set (x ∷ xs) zero d e h = and_from (eqb (bit_or d r) r) (all_within r xs) (eq-eqb _ _ e) (and_parts (eqb (bit_or x r) r) (all_within r xs) h).1
-  within_set (x ∷ xs) (suc i) d e h =
-      and_from (eqb (bit_or x r) r) (all_within r (set xs i d)) (and_parts (eqb (bit_or x r) r) (all_within r xs) h).0
-      (within_set xs i d e (and_parts (eqb (bit_or x r) r) (all_within r xs) h).1)
+  within_set (x ∷ xs) zero d e h = grind (arith, nat_tests)
+  within_set (x ∷ xs) (suc i) d e h = grind (arith, nat_tests, within_set xs i d e)
 
 -- so does the domain at a place of a slot's chain
 pub within_place : (s : Slot) (i : ℕ) → i < s.length → bit_or (get_or s.domains i 0) s.reach ≡ s.reach
@@ -35,12 +34,16 @@ within_union e d [] h = h
 within_union e d (x ∷ xs) h = within_union e (bit_or d x) xs (or_left e d x h)
 
 -- and so does each domain of the union
-pub all_in_union : (d : ℕ) (ds : List ℕ) → all_within (union_from d ds) ds ≡ true
+all_in_union : (d : ℕ) (ds : List ℕ) → all_within (union_from d ds) ds ≡ true
 unfolding all_within union_from
 all_in_union d [] = refl
-all_in_union d (x ∷ xs) = and_from _ _ (eq-eqb _ _ (within_union x (bit_or d x) xs (or_right d x))) (all_in_union (bit_or d x) xs)
+all_in_union d (x ∷ xs) = grind (arith, nat_tests, within_union x (bit_or d x) xs (or_right d x), all_in_union (bit_or d x) xs)
 
 pub union_is : (d : ℕ) (ds : List ℕ) → fold bit_or d ds ≡ union_from d ds
 unfolding union_from
 union_is d [] = refl
 union_is d (x ∷ xs) = union_is (bit_or d x) xs
+
+-- the domains that stand in front in a list of places, and their union
+pub front_within : (held ds rest : List ℕ) (r : ℕ) → held ≡ ds → r ≡ fold bit_or 0 ds → all_within r (take (length ds) (held ++ rest)) ≡ true
+front_within held ds rest r h e = rw (h, take-append_seam ds rest, e, union_is 0 ds) (all_in_union 0 ds)

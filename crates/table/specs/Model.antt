@@ -11,8 +11,8 @@ use Rattle.rules.specs.Console as rules
 use Rattle.rules.specs.Console.{Register, holding, Console, Reply, Answer, refused, accepted, Outcome, refuse, answer_of, after, ask, need, out_of_turn}
 use Rattle.rules.specs.Calls.{is_master, admit, close_rule}
 use Rattle.table.specs.declared.slot.Slot.{Slot}
-use Rattle.table.specs.declared.slot.SlotTable.{SlotTable}
-use Rattle.table.specs.declared.slot.Opened.{Opened}
+use Rattle.table.specs.declared.slots.SlotTable.{SlotTable}
+use Rattle.table.specs.declared.running.Opened.{Opened}
 
 abbrev pub slot_of : Slot → rules.Slot
 slot_of s =

@@ -6,7 +6,7 @@ use Rattle.memory.specs.Pages.{Page}
 use Rattle.rules.specs.Console as rules
 use Rattle.rules.specs.Console.{Register, holding, Console, after}
 use Rattle.rules.specs.Calls.{turn_rule}
-use Rattle.table.specs.declared.slot.SlotTable.{SlotTable}
+use Rattle.table.specs.declared.slots.SlotTable.{SlotTable}
 use Rattle.table.specs.declared.running.Running.{Running}
 use Rattle.table.specs.Model.{slots_of, console_with}
 

@@ -24,6 +24,7 @@ fn first_repeat(passwords: &[u64]) -> Option<usize>
 }
 
 /// A new chain, made whole: its high half is admitted, and no password repeats.
+#[tactic(auto, using(one_way::proofs::Places::front), unfolding(crate::specs::Sound::no_repeat))]
 pub(crate) fn new_chain<F: OneWay>(
     function: &F,
     parameter: Parameter,

@@ -2,7 +2,6 @@
 #![tactic(auto)]
 
 mod chain;
-mod entry;
 pub mod running;
 pub mod slot;
-mod table;
+pub mod slots;

@@ -7,11 +7,19 @@ ghost use Rattle.rules.specs.Told.{told, told_opening};
 ghost use Rattle.vocabulary.specs.declared.refusal.Refusal.TheVariants.{NotFound};
 ghost use Rattle.table.specs.Model.{slot_of, slots_of, found_in, found_at, Answers, Leaves, Closes};
 
-use crate::slot::{Opened, Slot, SlotTable};
+use crate::slot::Slot;
+use crate::slots::SlotTable;
 use one_way::OneWay;
 use vocabulary::found::Found;
 use vocabulary::parameter::Parameter;
 use vocabulary::refusal::{Refusal, Refused};
+
+/// Where a password was found, and the domain that stands there.
+#[derive(Clone, Copy)]
+pub struct Opened {
+    pub found: Found,
+    pub domain: u16,
+}
 
 /// The slot table in the turn of the app in a slot, which stays taken until the turn closes. It is not `Drop`: it has
 /// to be closed.

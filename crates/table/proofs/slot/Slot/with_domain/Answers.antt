@@ -1,6 +1,5 @@
 use Rattle.std.proofs.Common.{ap, ◌∙◌}
 use Rattle.std.proofs.Math.Seq.{take-set-lt}
-use Rattle.table.specs.Model.{slot_of}
 use Rattle.table.specs.Sound.{all_within}
 use Rattle.table.proofs.Reach.{within_set}
 use Rattle.table.proofs.slot.Slot.with_domain.Goals as goal
@@ -11,6 +10,4 @@ invariant_of-self-clause-within c =
     ∙ within_set c.args.self.reach _ c.args.place c.args.domain c.requires.within c.args.self.within
 
 pub returns : goal.returns
-returns c =
-    ap (λ ds. record { parameter = c.args.self.parameter; passwords = (slot_of c.args.self).passwords; domains = ds; saved = (slot_of c.args.self).saved; reach = c.args.self.reach })
-    (take-set-lt c.args.self.length c.args.self.domains c.args.place c.args.domain c.requires.place)
+returns c = let e = take-set-lt c.args.self.length c.args.self.domains c.args.place c.args.domain c.requires.place in cc

@@ -6,10 +6,16 @@ ghost use Rattle.table.specs.Model.{slot_of, slots_of, Answers, Leaves};
 ghost use Rattle.rules.specs.Told.{told};
 
 use crate::chain::new_chain;
-use crate::slot::{Slot, SlotTable};
+use crate::slot::Slot;
 use one_way::OneWay;
 use vocabulary::parameter::Parameter;
 use vocabulary::refusal::Refusal;
+
+/// The eight slots.
+#[derive(Clone, Copy)]
+pub struct SlotTable {
+    pub(crate) slots: [Option<Slot>; 8],
+}
 
 impl SlotTable {
     /// All slots free.
