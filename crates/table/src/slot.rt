@@ -62,6 +62,7 @@ impl Slot {
     }
 
     /// The domain at a place with a context added.
+    #[tactic(auto, using(crate::proofs::Masks::with_mask, crate::proofs::Masks::has_so, crate::proofs::Reach::domain_at, crate::proofs::Reach::grants_within))]
     pub(crate) fn granted(&self, w: u64, place: usize, context: usize) -> Result<u16, Refusal>
         ensures asked { (o : Outcome) → asked result o ≡ grant_asks (slot_of self.now) w place context o }
         ensures domain { IfOk result (λ d. d ≡ with_context (slice_index (slot_of self.now).domains place) context) }
@@ -75,6 +76,7 @@ impl Slot {
     }
 
     /// The domain at a place with a context removed.
+    #[tactic(auto, using(crate::proofs::Masks::without_mask, crate::proofs::Masks::loses_within, crate::proofs::Reach::domain_at, crate::proofs::Reach::within_place))]
     pub(crate) fn revoked(&self, w: u64, place: usize, context: usize) -> Result<u16, Refusal>
         ensures asked { (o : Outcome) → asked result o ≡ revoke_asks (slot_of self.now) w place context o }
         ensures domain { IfOk result (λ d. d ≡ without_context (slice_index (slot_of self.now).domains place) context) }
