@@ -114,7 +114,7 @@ impl<'a> Running<'a> {
     }
 
     // The search through the slots other than the app's own, whose chain lacks `w`.
-    #[tactic(auto, using(crate::proofs::LookUp::entry_at, crate::proofs::LookUp::pass, crate::proofs::LookUp::hit, crate::proofs::LookUp::end, crate::proofs::Search::place_skip, crate::proofs::Search::place_hit, crate::proofs::Search::place_end))]
+    #[tactic(auto, using(crate::proofs::LookUp::look_up_steps))]
     fn elsewhere(&self, w: u64) -> Option<Opened>
         requires { place_of w (passwords_of (slots_of self.now.slots.now self.now.own)) ≡ None }
         ensures found { found_at result ≡ search_slots (slots_of self.now.slots.now) w 8 0 }
