@@ -3,6 +3,7 @@ use Rattle.std.proofs.Common.{◌≡◌, ℕ, suc, ◌+◌, ◌-◌, ◌<◌, le
 use Rattle.std.proofs.lemmas.List.{get_or_default}
 use Rattle.rules.specs.Console as rules
 use Rattle.rules.specs.Console.{is_none}
+use Rattle.table.proofs.Search.{place_skip, place_hit, place_end}
 use Rattle.table.specs.declared.slot.Slot.{Slot}
 use Rattle.table.specs.declared.slots.SlotTable.{SlotTable}
 use Rattle.table.specs.Model.{entry_of, slots_of}
@@ -28,3 +29,6 @@ module _ (f : ℕ → Option rules.Slot) (w : ℕ) where
 
   pub end : (s : ℕ) → s ≡ 8 → None ≡ search_slots f w (8 - s) s
   end s q = sym (ap (λ n. search_slots f w (8 - n) n) q)
+
+-- a step of the look-up's loops, over the slots and in a chain
+pub ruleset look_up_steps = (entry_at, pass, hit, end, place_skip, place_hit, place_end)

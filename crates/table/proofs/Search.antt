@@ -56,3 +56,6 @@ module _ (ps : List ℕ) where
 
   pub repeat_hit : (i : ℕ) → i < length ps → list_any (λ p. eqb p (get_or ps i 0)) (take i ps) ≡ true → Some i ≡ repeat_from ps (length ps - i) i
   repeat_hit i l h = sym (repeat_step i l ∙ cond-false _ _ _ (ap not h))
+
+-- a step of the search for a password that stands twice
+pub ruleset repeat_steps = (repeat_skip, repeat_hit)

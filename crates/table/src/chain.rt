@@ -12,6 +12,7 @@ use vocabulary::parameter::Parameter;
 use vocabulary::refusal::Refusal;
 
 /// The lowest place whose password an earlier place holds too.
+#[tactic(auto, using(crate::proofs::Search::repeat_steps))]
 fn first_repeat(passwords: &[u64]) -> Option<usize>
     ensures { result ≡ rules.first_repeat passwords.now }
 {

@@ -122,6 +122,7 @@ impl<'a> Running<'a> {
     }
 
     // The search through the slots other than the app's own, whose chain lacks `w`.
+    #[tactic(auto, using(crate::proofs::LookUp::look_up_steps))]
     fn elsewhere(&self, w: u64) -> Option<Opened>
         requires { place_of w (passwords_of (slots_of self.now.slots.now self.now.own)) ≡ None }
         ensures found { found_at result ≡ search_slots (slots_of self.now.slots.now) w 8 0 }

@@ -62,6 +62,7 @@ impl Slot {
     }
 
     /// The domain at a place with a context added.
+    #[tactic(auto, using(crate::proofs::Reach::domain_steps))]
     pub(crate) fn granted(&self, w: u64, place: usize, context: usize) -> Result<u16, Refusal>
         ensures asked { (o : Outcome) → asked result o ≡ grant_asks (slot_of self.now) w place context o }
         ensures domain { IfOk result (λ d. d ≡ with_context (slice_index (slot_of self.now).domains place) context) }
@@ -75,6 +76,7 @@ impl Slot {
     }
 
     /// The domain at a place with a context removed.
+    #[tactic(auto, using(crate::proofs::Reach::domain_steps))]
     pub(crate) fn revoked(&self, w: u64, place: usize, context: usize) -> Result<u16, Refusal>
         ensures asked { (o : Outcome) → asked result o ≡ revoke_asks (slot_of self.now) w place context o }
         ensures domain { IfOk result (λ d. d ≡ without_context (slice_index (slot_of self.now).domains place) context) }
@@ -125,6 +127,7 @@ impl Slot {
     }
 
     /// The record with another domain at a place.
+    #[tactic(auto, using(crate::proofs::Reach::domain_steps))]
     pub(crate) fn with_domain(mut self, place: usize, domain: u16) -> Slot
         requires place { place < self.length }
         requires within { bit_or domain self.reach ≡ self.reach }
@@ -145,6 +148,7 @@ impl Slot {
     }
 
     /// The record of a new app: the saved register is the domain at place 0, the reach the union of the domains.
+    #[tactic(auto, using(crate::proofs::Reach::union_steps))]
     pub(crate) fn new(parameter: Parameter, passwords: [u64; 8], domains: &[u16]) -> Slot
         requires count { (1 ≤ length domains.now) × (length domains.now ≤ 8) }
         requires distinct { no_repeat (take (length domains.now) passwords) ≡ true }
