@@ -42,17 +42,17 @@ impl<'a> Running<'a> {
         ensures state { Opens (slots_of slots.old) result slot }
         ensures same { MatchResult result (λ x. x.0.slots.ghost_name ≡ slots.entry.ghost_name) (λ x. x.given_back.ghost_name ≡ slots.entry.ghost_name) }
     {
-        if slot >= 8 {
-            return Err(Refused {
-                refusal: Refusal::NoSuchSlot,
-                given_back: slots,
-            });
-        }
-        let register = match &slots.slots[slot] {
-            Some(app) => app.saved,
-            None => {
+        let register = match slots.entry(slot) {
+            Ok(Some(app)) => app.saved,
+            Ok(None) => {
                 return Err(Refused {
                     refusal: Refusal::SlotFree,
+                    given_back: slots,
+                });
+            }
+            Err(refusal) => {
+                return Err(Refused {
+                    refusal,
                     given_back: slots,
                 });
             }

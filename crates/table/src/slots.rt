@@ -1,8 +1,9 @@
-ghost use Rattle.std.specs.Prelude.{◌≡◌, ◌<◌, Some, None};
+ghost use Rattle.std.specs.Prelude.{◌≡◌, ◌<◌, ◌≤◌, IfOk, IfErr, Some, None};
+ghost use Rattle.vocabulary.specs.declared.refusal.Refusal.TheVariants.{NoSuchSlot};
 ghost use Rattle.memory.specs.Pages.{put};
-ghost use Rattle.rules.specs.Console.{done, is_none};
+ghost use Rattle.rules.specs.Console.{done};
 ghost use Rattle.rules.specs.Calls.{create_rule, end_rule};
-ghost use Rattle.table.specs.Model.{slot_of, slots_of, Answers, Leaves};
+ghost use Rattle.table.specs.Model.{entry_of, slot_of, slots_of, Answers, Leaves};
 ghost use Rattle.rules.specs.Told.{told};
 
 use crate::chain::new_chain;
@@ -37,10 +38,7 @@ impl SlotTable {
         ensures answer { Answers (slots_of self.old) (told (λ _. done) result) (λ k. create_rule F.OneWay.meaning k slot parameter master domains.now) }
         ensures state { Leaves (slots_of self.old) (slots_of self.new) (λ k. create_rule F.OneWay.meaning k slot parameter master domains.now) }
     {
-        if slot >= 8 {
-            return Err(Refusal::NoSuchSlot);
-        }
-        if !self.is_free(slot) {
+        if self.entry(slot)?.is_some() {
             return Err(Refusal::SlotTaken);
         }
         if domains.is_empty() || domains.len() > 8 {
@@ -51,12 +49,12 @@ impl SlotTable {
         Ok(())
     }
 
-    // Whether a slot is free.
-    fn is_free(&self, slot: usize) -> bool
-        requires { slot < 8 }
-        ensures { result ≡ is_none (slots_of self.now slot) }
+    // What stands in a slot: an app, or nothing.
+    pub(crate) fn entry(&self, slot: usize) -> Result<&Option<Slot>, Refusal>
+        ensures there { IfOk result (λ e. (slot < 8) × (entry_of e.now ≡ slots_of self.now slot)) }
+        ensures nowhere { IfErr result (λ e. (8 ≤ slot) × (e ≡ NoSuchSlot)) }
     {
-        self.slots[slot].is_none()
+        self.slots.get(slot).ok_or(Refusal::NoSuchSlot)
     }
 
     // Stores the record of an app.
@@ -72,10 +70,7 @@ impl SlotTable {
         ensures answer { Answers (slots_of self.old) (told (λ _. done) result) (λ k. end_rule k slot) }
         ensures state { Leaves (slots_of self.old) (slots_of self.new) (λ k. end_rule k slot) }
     {
-        if slot >= 8 {
-            return Err(Refusal::NoSuchSlot);
-        }
-        if self.is_free(slot) {
+        if self.entry(slot)?.is_none() {
             return Err(Refusal::SlotFree);
         }
         self.slots[slot] = None;
