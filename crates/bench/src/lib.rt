@@ -1,4 +1,4 @@
-//! The one-way functions, for the C program that times them.
+//! The one-way functions, for the C program that times them: one exported name for each, since C has no generic call.
 #![tactic(auto)]
 
 ghost use Rattle.std.specs.Prelude.{◌≡◌};

@@ -8,8 +8,8 @@ use vocabulary::parameter::Parameter;
 
 const ROUNDS: u32 = 27;
 
-/// Speck64/128. The parameter's words from the top are l2, l1, l0 and k0 of the key, and the block's upper 32 bits are its
-/// first word.
+/// Speck64/128. The parameter's words from the top are l2, l1, l0 and k0 of the key, and the block's upper 32 bits are
+/// its first word.
 #[derive(Clone, Copy, Debug)]
 pub struct Speck;
 

@@ -65,7 +65,7 @@ impl<'a, F: OneWay, M: Memory> Turn<'a, F, M> {
         self.app.grant(master, place, context)
     }
 
-    /// Removes a context likewise.
+    /// Removes a context likewise; a call by name.
     pub fn revoke(&mut self, master: u64, place: usize, context: usize) -> Result<u16, Refusal>
         ensures { Obeys (during F.OneWay M.Memory self.old) (app (rules.revoke master place context)) (told value result) (during F.OneWay M.Memory self.new) }
     {
@@ -94,7 +94,8 @@ impl<'a, F: OneWay, M: Memory> Turn<'a, F, M> {
             .load(self.register, &self.memory, Access::Read(address), 0)
     }
 
-    /// Fetches a byte under the domain in the register.
+    /// Fetches a byte under the domain in the register. It differs from `read` in the right alone; both are calls by
+    /// name.
     pub fn fetch(&mut self, address: usize) -> Result<u8, Refusal>
         ensures { Obeys (during F.OneWay M.Memory self.old) (app (rules.access (Fetch address))) (told value result) (during F.OneWay M.Memory self.new) }
     {
@@ -138,7 +139,7 @@ impl<'a, F: OneWay, M: Memory> Turn<'a, F, M> {
         )
     }
 
-    /// Looks at the console in a turn.
+    /// Looks at the console in a turn. A trait for both looks would have both bodies, and nothing is generic in them.
     pub fn inspect(&self) -> Inspection<'_, M>
         ensures { inspected F.OneWay M.Memory result ≡ during F.OneWay M.Memory self.now }
     {

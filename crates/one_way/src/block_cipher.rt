@@ -5,8 +5,8 @@ ghost use Rattle.vocabulary.specs.declared.parameter.Parameter.{Parameter};
 use crate::OneWay;
 use vocabulary::parameter::Parameter;
 
-/// A block cipher with blocks of 64 bits, whose key is made from a parameter. Every parameter makes a key; `GREATEST_KEY`
-/// tells up to which high half no bit of the parameter is left out of it.
+/// A block cipher with blocks of 64 bits, whose key is made from a parameter. Every parameter makes a key;
+/// `GREATEST_KEY` tells up to which high half no bit of the parameter is left out of it.
 pub trait BlockCipher {
     /// The greatest high half of a parameter that the key holds whole.
     const GREATEST_KEY: u64;

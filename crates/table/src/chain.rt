@@ -24,7 +24,8 @@ fn first_repeat(passwords: &[u64]) -> Option<usize>
     None
 }
 
-/// A new chain, made whole: its high half is admitted, and no password repeats.
+/// A new chain, made whole: its high half is admitted, and no password repeats. It stands in eight places with the
+/// length beside them, since there is no heap.
 #[tactic(auto, using(one_way::proofs::Places::front), unfolding(crate::specs::Sound::no_repeat))]
 pub(crate) fn new_chain<F: OneWay>(
     function: &F,

@@ -15,7 +15,7 @@ use vocabulary::parameter::Parameter;
 use vocabulary::refusal::{Refusal, Refused};
 
 /// Where a password was found, and the domain that stands there.
-#[derive(Clone, Copy)]
+#[derive(Clone, Copy, Debug, PartialEq, Eq)]
 pub struct Opened {
     pub found: Found,
     pub domain: u16,
@@ -121,7 +121,8 @@ impl<'a> Running<'a> {
         self.elsewhere(w).ok_or(Refusal::NotFound)
     }
 
-    // The search through the slots other than the app's own, whose chain lacks `w`.
+    // The search through the slots other than the app's own, whose chain lacks `w`. Nested loops, left by label at the
+    // match, since what is found is the slot and the place together.
     #[tactic(auto, using(crate::proofs::LookUp::look_up_steps))]
     fn elsewhere(&self, w: u64) -> Option<Opened>
         requires { place_of w (passwords_of (slots_of self.now.slots.now self.now.own)) ≡ None }
@@ -163,7 +164,8 @@ impl<'a> Running<'a> {
         Ok(domain)
     }
 
-    /// Removes a context likewise.
+    /// Removes a context likewise. One function for both would take what the record is asked as a closure, with clauses
+    /// that are longer than these lines.
     pub fn revoke(&mut self, w: u64, place: usize, context: usize) -> Result<u16, Refusal>
         ensures answer { Answers (slots_of self.old.slots.now) (told value result) (λ k. need (k.slots self.old.own) out_of_turn (λ σ. revoke_rule k self.old.own σ w place context)) }
         ensures state { Leaves (slots_of self.old.slots.now) (slots_of self.new.slots.now) (λ k. need (k.slots self.old.own) out_of_turn (λ σ. revoke_rule k self.old.own σ w place context)) }

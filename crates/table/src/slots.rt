@@ -13,7 +13,7 @@ use vocabulary::parameter::Parameter;
 use vocabulary::refusal::Refusal;
 
 /// The eight slots.
-#[derive(Clone, Copy)]
+#[derive(Clone, Copy, Debug, PartialEq, Eq)]
 pub struct SlotTable {
     pub(crate) slots: [Option<Slot>; 8],
 }

@@ -68,7 +68,7 @@ pub enum Refusal {
 }
 
 impl Refusal {
-    /// The number of the question, from 1 to 19.
+    /// The number of the question, from 1 to 19. The case is the kind; the number is only what the question is called.
     pub fn number(&self) -> u8
         ensures { result ≡ (reason self.now).number }
     {
