@@ -8,6 +8,7 @@ use Rattle.rules.specs.Console as rules
 use Rattle.rules.specs.Console.{Machine, holding, Call, Answer, refused, accepted, done, answer_of, after}
 use Rattle.rules.specs.Calls.{rule}
 use Rattle.table.specs.Model.{slots_of}
+use Rattle.table.specs.Turns.{slots_in}
 use Rattle.guard.specs.declared.state.Console.{Console}
 use Rattle.guard.specs.declared.state.Turn.{Turn}
 use Rattle.rules.specs.Domains.{Fields}
@@ -40,7 +41,7 @@ module _ {F M : Type 0} (way : Meaning) (pages : M → Pages) (effect : M → Ef
   during t =
       record {
         machine = record { way = way; effect = effect t.memory; field = fields_of t.fields.now };
-        console = record { slots = slots_of t.app.slots.now; register = holding t.register; turn_of = Some t.app.own; pages = (pages t.memory).page };
+        console = record { slots = slots_in t.app; register = holding t.register; turn_of = Some t.app.own; pages = (pages t.memory).page };
       }
 
   -- a turn that was opened, or the console that was given back
