@@ -51,6 +51,10 @@ new_passwords way σ w p = chain way.H p (length σ.passwords) w
 abbrev pub rekey_asks : Meaning → rules.Slot → ℕ → Parameter → Outcome → Outcome
 rekey_asks way σ w p o = ask (is_master σ w) (by_table 13 0) (admit way.greatest p (new_passwords way σ w p) o)
 
+-- the rule of a call of the app in slot s
+abbrev pub in_turn : ℕ → (Console → rules.Slot → Outcome) → Console → Outcome
+in_turn s rule k = need (k.slots s) out_of_turn (λ σ. rule k σ)
+
 -- at every console that has slots f, a rule answers a
 abbrev pub Answers : (ℕ → Option rules.Slot) → Answer → (Console → Outcome) → Type 0
 Answers f a rule = (g : Register) (t : Option ℕ) (m : ℕ → Page) → a ≡ answer_of (rule (console_with f g t m))

@@ -10,6 +10,10 @@ use Rattle.table.specs.declared.slots.SlotTable.{SlotTable}
 use Rattle.table.specs.declared.running.Running.{Running}
 use Rattle.table.specs.Model.{slots_of, console_with}
 
+-- the slots of the table
+abbrev pub slots_in : Running → ℕ → Option rules.Slot
+slots_in t = slots_of t.slots.now
+
 -- the turn of the same app, over the same table
 abbrev pub SameTurn : Running → Running → Type 0
 SameTurn t u = (u.own ≡ t.own) × (u.slots.ghost_name ≡ t.slots.ghost_name)
@@ -19,7 +23,7 @@ abbrev pub Opening : Type 0
 Opening = Result (Running × ℕ) (Refused (MutBor SlotTable))
 
 abbrev pub opened : Opening → Register → Option ℕ → (ℕ → Page) → Console
-opened (Ok x) g t m = console_with (slots_of x.0.slots.now) (holding x.1) (Some x.0.own) m
+opened (Ok x) g t m = console_with (slots_in x.0) (holding x.1) (Some x.0.own) m
 opened (Err x) g t m = console_with (slots_of x.given_back.now) g t m
 
 -- at every console that has slots f, the rule of turn opens that turn of slot s, or leaves all as it is

@@ -41,6 +41,7 @@ pub(crate) fn new_chain<F: OneWay>(
     if parameter.high > F::GREATEST_HIGH {
         return Err(Refusal::HighHalf);
     }
+    // Eight passwords by value, whatever the length: a rule of the project names this form.
     let passwords = chain(function, parameter, master, length);
     match first_repeat(&passwords[..length]) {
         Some(place) => Err(Refusal::Repeat(place)),

@@ -1,11 +1,11 @@
 ghost use Rattle.std.specs.Prelude.{◌≡◌, ◌<◌, false, IfSome, IfOk, IfErr, MatchResult, Some, None};
 ghost use Rattle.memory.specs.Pages.{put};
-ghost use Rattle.rules.specs.Console.{done, value, need, out_of_turn, is_none};
+ghost use Rattle.rules.specs.Console.{done, value, is_none};
 ghost use Rattle.rules.specs.Calls.{turn_rule, grant_rule, revoke_rule, derive_rule, rekey_rule};
 ghost use Rattle.rules.specs.LookUp.{look_up, domain_at, search_slots, place_of, passwords_of};
 ghost use Rattle.rules.specs.Told.{told, told_opening};
 ghost use Rattle.vocabulary.specs.declared.refusal.Refusal.TheVariants.{NotFound};
-ghost use Rattle.table.specs.Model.{slot_of, slots_of, found_in, found_at, Answers, Leaves, Closes};
+ghost use Rattle.table.specs.Model.{slot_of, slots_of, found_in, found_at, in_turn, Answers, Leaves, Closes};
 
 use crate::slot::Slot;
 use crate::slots::SlotTable;
@@ -31,7 +31,7 @@ pub struct Running<'a> {
 }
 
 impl<'a> Running<'a> {
-    ghost use Rattle.table.specs.Turns.{SameTurn, Opens};
+    ghost use Rattle.table.specs.Turns.{slots_in, SameTurn, Opens};
 
     /// Opens the turn of the app in a slot, and answers its saved register too. A refusal gives the table back.
     pub fn open(
@@ -70,8 +70,9 @@ impl<'a> Running<'a> {
 
     // The record of the app.
     fn app(&self) -> &Slot
-        ensures { slots_of self.now.slots.now self.now.own ≡ Some (slot_of result.now) }
+        ensures { slots_in self.now self.now.own ≡ Some (slot_of result.now) }
     {
+        // By a name of its own, since no proof reads an element through `&` and `&mut` at once.
         let slots = &*self.slots;
         match &slots.slots[self.own] {
             Some(app) => app,
@@ -79,9 +80,9 @@ impl<'a> Running<'a> {
         }
     }
 
-    // Writes the record of the app whole.
+    // Lends the app's slot, and writes its record whole: a rule of the project names this form.
     fn write(&mut self, app: Slot)
-        ensures slots { slots_of self.new.slots.now ≡ put (slots_of self.old.slots.now) self.old.own (Some (slot_of app)) }
+        ensures slots { slots_in self.new ≡ put (slots_in self.old) self.old.own (Some (slot_of app)) }
         ensures same { SameTurn self.old self.new }
     {
         if let Some(slot) = &mut self.slots.slots[self.own] {
@@ -91,7 +92,7 @@ impl<'a> Running<'a> {
 
     /// Closes the turn: the register is saved.
     pub fn close(mut self, register: u16) -> &'a mut SlotTable
-        ensures state { Closes (slots_of self.entry.slots.now) (slots_of result.now) self.entry.own register }
+        ensures state { Closes (slots_in self.entry) (slots_of result.now) self.entry.own register }
         ensures same { result.ghost_name ≡ self.entry.slots.ghost_name }
     {
         let changed = self.app().with_register(register);
@@ -103,8 +104,8 @@ impl<'a> Running<'a> {
     /// Looks `w` up: the app's own chain comes first, then the other taken slots from 0 upwards.
     #[tactic(auto, unfolding(rules::specs::LookUp::look_up))]
     pub fn find(&self, w: u64) -> Result<Opened, Refusal>
-        ensures found { found_in result ≡ look_up (slots_of self.now.slots.now) self.now.own w }
-        ensures domain { IfOk result (λ x. x.domain ≡ domain_at (slots_of self.now.slots.now) x.found.slot x.found.place) }
+        ensures found { found_in result ≡ look_up (slots_in self.now) self.now.own w }
+        ensures domain { IfOk result (λ x. x.domain ≡ domain_at (slots_in self.now) x.found.slot x.found.place) }
         ensures refusal { IfErr result (λ e. e ≡ NotFound) }
     {
         let app = self.app();
@@ -121,14 +122,14 @@ impl<'a> Running<'a> {
         self.elsewhere(w).ok_or(Refusal::NotFound)
     }
 
-    // The search through the slots other than the app's own, whose chain lacks `w`. Nested loops, left by label at the
-    // match, since what is found is the slot and the place together.
+    // The search through the slots other than the app's own, whose chain lacks `w`.
     #[tactic(auto, using(crate::proofs::LookUp::look_up_steps))]
     fn elsewhere(&self, w: u64) -> Option<Opened>
-        requires { place_of w (passwords_of (slots_of self.now.slots.now self.now.own)) ≡ None }
-        ensures found { found_at result ≡ search_slots (slots_of self.now.slots.now) w 8 0 }
-        ensures domain { IfSome result (λ x. x.domain ≡ domain_at (slots_of self.now.slots.now) x.found.slot x.found.place) }
+        requires { place_of w (passwords_of (slots_in self.now self.now.own)) ≡ None }
+        ensures found { found_at result ≡ search_slots (slots_in self.now) w 8 0 }
+        ensures domain { IfSome result (λ x. x.domain ≡ domain_at (slots_in self.now) x.found.slot x.found.place) }
     {
+        // Slots and places, left by label at the match: a rule of the project names this form.
         let mut opened = None;
         'search: for (slot, entry) in self.slots.slots.iter().enumerate() {
             if slot == self.own {
@@ -153,8 +154,8 @@ impl<'a> Running<'a> {
 
     /// Adds a context to the domain at a place of the app's chain, and answers that domain.
     pub fn grant(&mut self, w: u64, place: usize, context: usize) -> Result<u16, Refusal>
-        ensures answer { Answers (slots_of self.old.slots.now) (told value result) (λ k. need (k.slots self.old.own) out_of_turn (λ σ. grant_rule k self.old.own σ w place context)) }
-        ensures state { Leaves (slots_of self.old.slots.now) (slots_of self.new.slots.now) (λ k. need (k.slots self.old.own) out_of_turn (λ σ. grant_rule k self.old.own σ w place context)) }
+        ensures answer { Answers (slots_in self.old) (told value result) (in_turn self.old.own (λ k σ. grant_rule k self.old.own σ w place context)) }
+        ensures state { Leaves (slots_in self.old) (slots_in self.new) (in_turn self.old.own (λ k σ. grant_rule k self.old.own σ w place context)) }
         ensures same { SameTurn self.old self.new }
     {
         let app = self.app();
@@ -167,8 +168,8 @@ impl<'a> Running<'a> {
     /// Removes a context likewise. One function for both would take what the record is asked as a closure, with clauses
     /// that are longer than these lines.
     pub fn revoke(&mut self, w: u64, place: usize, context: usize) -> Result<u16, Refusal>
-        ensures answer { Answers (slots_of self.old.slots.now) (told value result) (λ k. need (k.slots self.old.own) out_of_turn (λ σ. revoke_rule k self.old.own σ w place context)) }
-        ensures state { Leaves (slots_of self.old.slots.now) (slots_of self.new.slots.now) (λ k. need (k.slots self.old.own) out_of_turn (λ σ. revoke_rule k self.old.own σ w place context)) }
+        ensures answer { Answers (slots_in self.old) (told value result) (in_turn self.old.own (λ k σ. revoke_rule k self.old.own σ w place context)) }
+        ensures state { Leaves (slots_in self.old) (slots_in self.new) (in_turn self.old.own (λ k σ. revoke_rule k self.old.own σ w place context)) }
         ensures same { SameTurn self.old self.new }
     {
         let app = self.app();
@@ -180,8 +181,8 @@ impl<'a> Running<'a> {
 
     /// The password `n` places after `w` in the app's own chain.
     pub fn derive(&self, w: u64, n: usize) -> Result<u64, Refusal>
-        ensures answer { Answers (slots_of self.now.slots.now) (told value result) (λ k. need (k.slots self.now.own) out_of_turn (λ σ. derive_rule k σ w n)) }
-        ensures state { Leaves (slots_of self.now.slots.now) (slots_of self.now.slots.now) (λ k. need (k.slots self.now.own) out_of_turn (λ σ. derive_rule k σ w n)) }
+        ensures answer { Answers (slots_in self.now) (told value result) (in_turn self.now.own (λ k σ. derive_rule k σ w n)) }
+        ensures state { Leaves (slots_in self.now) (slots_in self.now) (in_turn self.now.own (λ k σ. derive_rule k σ w n)) }
     {
         self.app().derived(w, n)
     }
@@ -193,8 +194,8 @@ impl<'a> Running<'a> {
         w: u64,
         parameter: Parameter,
     ) -> Result<(), Refusal>
-        ensures answer { Answers (slots_of self.old.slots.now) (told (λ _. done) result) (λ k. need (k.slots self.old.own) out_of_turn (λ σ. rekey_rule F.OneWay.meaning k self.old.own σ w parameter)) }
-        ensures state { Leaves (slots_of self.old.slots.now) (slots_of self.new.slots.now) (λ k. need (k.slots self.old.own) out_of_turn (λ σ. rekey_rule F.OneWay.meaning k self.old.own σ w parameter)) }
+        ensures answer { Answers (slots_in self.old) (told (λ _. done) result) (in_turn self.old.own (λ k σ. rekey_rule F.OneWay.meaning k self.old.own σ w parameter)) }
+        ensures state { Leaves (slots_in self.old) (slots_in self.new) (in_turn self.old.own (λ k σ. rekey_rule F.OneWay.meaning k self.old.own σ w parameter)) }
         ensures same { SameTurn self.old self.new }
     {
         let app = self.app();

@@ -17,6 +17,7 @@ use vocabulary::refusal::Refusal;
 #[derive(Clone, Copy, Debug, PartialEq, Eq)]
 pub struct Slot {
     pub(crate) parameter: Parameter,
+    // Two plain arrays beside the length: there is no heap here, and a rule of the project names this form.
     pub(crate) passwords: [u64; 8],
     pub(crate) domains: [u16; 8],
     pub(crate) length: usize,
