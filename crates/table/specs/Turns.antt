@@ -23,6 +23,7 @@ SameTurn t u = (u.own ≡ t.own) × (u.slots.ghost_name ≡ t.slots.ghost_name)
 abbrev pub Opening : Type 0
 Opening = Result (Running × ℕ) (MutBor SlotTable × Refusal)
 
+-- what it answers, and the console that it leaves
 abbrev pub told_opened : Opening → Answer
 told_opened (Ok x) = accepted done
 told_opened (Err x) = refused (reason x.1)
