@@ -85,33 +85,25 @@ impl<'a, F: OneWay, M: Memory> Console<'a, F, M> {
     pub fn turn(self, slot: usize) -> Result<Turn<'a, F, M>, Refused<Console<'a, F, M>>>
         ensures { Obeys (between F.OneWay M.Memory self.entry) (exec (rules.turn slot)) (told_opening result) (opened F.OneWay M.Memory result) }
     {
-        let Console {
-            function,
-            memory,
-            fields,
-            slots,
-        } = self;
-        match Running::open(slots, slot) {
-            Ok((app, register)) => Ok(Turn {
-                function,
-                memory,
-                fields,
-                app,
-                register,
-            }),
-            Err(
-                Refused {
-                    refusal,
-                    given_back: slots,
-                },
-            ) => Err(Refused {
-                refusal,
-                given_back: Console {
+        match self.slots.saved(slot) {
+            Ok(register) => {
+                let Console {
                     function,
                     memory,
                     fields,
                     slots,
-                },
+                } = self;
+                Ok(Turn {
+                    function,
+                    memory,
+                    fields,
+                    app: Running::new(slots, slot),
+                    register,
+                })
+            }
+            Err(refusal) => Err(Refused {
+                refusal,
+                given_back: self,
             }),
         }
     }

@@ -37,15 +37,15 @@ impl<'a, F: OneWay, M: Memory> Turn<'a, F, M> {
             function,
             memory,
             fields,
-            app,
+            mut app,
             register,
         } = self;
-        let slots = app.close(register);
+        app.save(register);
         Console {
             function,
             memory,
             fields,
-            slots,
+            slots: app.into_slots(),
         }
     }
 

@@ -9,10 +9,10 @@ use Rattle.one_way.specs.OneWay.{Meaning}
 use Rattle.memory.specs.Pages.{Page}
 use Rattle.rules.specs.Console as rules
 use Rattle.rules.specs.Console.{Register, holding, Console, Reply, Answer, refused, accepted, Outcome, refuse, answer_of, after, ask, need, out_of_turn}
-use Rattle.rules.specs.Calls.{is_master, admit, close_rule}
+use Rattle.rules.specs.Calls.{is_master, admit, turn_rule, close_rule}
 use Rattle.table.specs.declared.slot.Slot.{Slot}
 use Rattle.table.specs.declared.slots.SlotTable.{SlotTable}
-use Rattle.table.specs.declared.running.Opened.{Opened}
+use Rattle.table.specs.declared.slots.Opened.{Opened}
 
 abbrev pub slot_of : Slot → rules.Slot
 slot_of s =
@@ -62,6 +62,14 @@ Answers f a rule = (g : Register) (t : Option ℕ) (m : ℕ → Page) → a ≡ 
 -- there it leaves slots f', and all else as it is
 abbrev pub Leaves : (ℕ → Option rules.Slot) → (ℕ → Option rules.Slot) → (Console → Outcome) → Type 0
 Leaves f f' rule = (g : Register) (t : Option ℕ) (m : ℕ → Page) → console_with f' g t m ≡ after (console_with f g t m) (rule (console_with f g t m))
+
+-- there the rule of turn begins a turn of slot s with the register that the code gives, or leaves all as it is
+abbrev pub turned : ℕ → Result ℕ Refusal → Console → Console
+turned s (Ok d) k = record { slots = k.slots; register = holding d; turn_of = Some s; pages = k.pages }
+turned s (Err e) k = k
+
+abbrev pub Turns : (ℕ → Option rules.Slot) → Result ℕ Refusal → ℕ → Type 0
+Turns f r s = (g : Register) (t : Option ℕ) (m : ℕ → Page) → turned s r (console_with f g t m) ≡ after (console_with f g t m) (turn_rule (console_with f g t m) s)
 
 -- the rule of close ends a turn of slot s with register d, and leaves slots f'
 abbrev pub Closes : (ℕ → Option rules.Slot) → (ℕ → Option rules.Slot) → ℕ → ℕ → Type 0

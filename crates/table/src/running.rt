@@ -1,28 +1,20 @@
-ghost use Rattle.std.specs.Prelude.{◌≡◌, ◌<◌, false, IfSome, IfOk, IfErr, MatchResult, Some, None};
+ghost use Rattle.std.specs.Prelude.{◌≡◌, ◌<◌, false, IfOk, IfErr, Some};
 ghost use Rattle.memory.specs.Pages.{put};
 ghost use Rattle.rules.specs.Console.{done, value, is_none};
-ghost use Rattle.rules.specs.Calls.{turn_rule, grant_rule, revoke_rule, derive_rule, rekey_rule};
-ghost use Rattle.rules.specs.LookUp.{look_up, domain_at, search_slots, place_of, passwords_of};
-ghost use Rattle.rules.specs.Told.{told, told_opening};
+ghost use Rattle.rules.specs.Calls.{grant_rule, revoke_rule, derive_rule, rekey_rule};
+ghost use Rattle.rules.specs.LookUp.{look_up, domain_at};
+ghost use Rattle.rules.specs.Told.{told};
 ghost use Rattle.vocabulary.specs.declared.refusal.Refusal.TheVariants.{NotFound};
-ghost use Rattle.table.specs.Model.{slot_of, slots_of, found_in, found_at, in_turn, Answers, Leaves, Closes};
+ghost use Rattle.table.specs.Model.{slot_of, slots_of, found_in, in_turn, Answers, Leaves, Closes};
 
 use crate::slot::Slot;
-use crate::slots::SlotTable;
+use crate::slots::{Opened, SlotTable};
 use one_way::OneWay;
-use vocabulary::found::Found;
 use vocabulary::parameter::Parameter;
-use vocabulary::refusal::{Refusal, Refused};
+use vocabulary::refusal::Refusal;
 
-/// Where a password was found, and the domain that stands there.
-#[derive(Clone, Copy, Debug, PartialEq, Eq)]
-pub struct Opened {
-    pub found: Found,
-    pub domain: u16,
-}
-
-/// The slot table in the turn of the app in a slot, which stays taken until the turn closes. It is not `Drop`: it has
-/// to be closed.
+/// The slot table in the turn of the app in a slot, which stays taken until the turn closes.
+#[derive(Drop)]
 pub struct Running<'a> {
     slots: &'a mut SlotTable,
     own: usize,
@@ -31,33 +23,17 @@ pub struct Running<'a> {
 }
 
 impl<'a> Running<'a> {
-    ghost use Rattle.table.specs.Turns.{slots_in, SameTurn, Opens};
+    ghost use Rattle.table.specs.Turns.{slots_in, SameTurn};
 
-    /// Opens the turn of the app in a slot, and answers its saved register too. A refusal gives the table back.
-    pub fn open(
-        slots: &'a mut SlotTable,
-        slot: usize,
-    ) -> Result<(Running<'a>, u16), Refused<&'a mut SlotTable>>
-        ensures answer { Answers (slots_of slots.old) (told_opening result) (λ k. turn_rule k slot) }
-        ensures state { Opens (slots_of slots.old) result slot }
-        ensures same { MatchResult result (λ x. x.0.slots.ghost_name ≡ slots.entry.ghost_name) (λ x. x.given_back.ghost_name ≡ slots.entry.ghost_name) }
+    /// The turn of the app in a slot, which has to be taken: `SlotTable::saved` tells.
+    pub fn new(slots: &'a mut SlotTable, own: usize) -> Running<'a>
+        requires slot { own < 8 }
+        requires taken { is_none (slots_of slots.old own) ≡ false }
+        ensures slots { slots_in result ≡ slots_of slots.old }
+        ensures own { result.own ≡ own }
+        ensures same { result.slots.ghost_name ≡ slots.entry.ghost_name }
     {
-        let register = match slots.entry(slot) {
-            Ok(Some(app)) => app.saved,
-            Ok(None) => {
-                return Err(Refused {
-                    refusal: Refusal::SlotFree,
-                    given_back: slots,
-                });
-            }
-            Err(refusal) => {
-                return Err(Refused {
-                    refusal,
-                    given_back: slots,
-                });
-            }
-        };
-        Ok((Running { slots, own: slot }, register))
+        Running { slots, own }
     }
 
     /// Looks at the table, and at the slot of the app.
@@ -90,66 +66,31 @@ impl<'a> Running<'a> {
         }
     }
 
-    /// Closes the turn: the register is saved.
-    pub fn close(mut self, register: u16) -> &'a mut SlotTable
-        ensures state { Closes (slots_in self.entry) (slots_of result.now) self.entry.own register }
+    /// Saves the register of the app.
+    pub fn save(&mut self, register: u16)
+        ensures state { Closes (slots_in self.old) (slots_in self.new) self.old.own register }
+        ensures same { SameTurn self.old self.new }
+    {
+        let saved = self.app().with_register(register);
+        self.write(saved);
+    }
+
+    /// Hands the table back.
+    pub fn into_slots(self) -> &'a mut SlotTable
+        ensures slots { result.now ≡ self.entry.slots.now }
         ensures same { result.ghost_name ≡ self.entry.slots.ghost_name }
     {
-        let changed = self.app().with_register(register);
-        self.write(changed);
         let Running { slots, own: _ } = self;
         slots
     }
 
     /// Looks `w` up: the app's own chain comes first, then the other taken slots from 0 upwards.
-    #[tactic(auto, unfolding(rules::specs::LookUp::look_up))]
     pub fn find(&self, w: u64) -> Result<Opened, Refusal>
         ensures found { found_in result ≡ look_up (slots_in self.now) self.now.own w }
         ensures domain { IfOk result (λ x. x.domain ≡ domain_at (slots_in self.now) x.found.slot x.found.place) }
         ensures refusal { IfErr result (λ e. e ≡ NotFound) }
     {
-        let app = self.app();
-        if let Some(place) = app.place(w) {
-            let found = Found {
-                slot: self.own,
-                place,
-            };
-            return Ok(Opened {
-                found,
-                domain: app.domains[place],
-            });
-        }
-        self.elsewhere(w).ok_or(Refusal::NotFound)
-    }
-
-    // The search through the slots other than the app's own, whose chain lacks `w`.
-    #[tactic(auto, using(crate::proofs::LookUp::look_up_steps))]
-    fn elsewhere(&self, w: u64) -> Option<Opened>
-        requires { place_of w (passwords_of (slots_in self.now self.now.own)) ≡ None }
-        ensures found { found_at result ≡ search_slots (slots_in self.now) w 8 0 }
-        ensures domain { IfSome result (λ x. x.domain ≡ domain_at (slots_in self.now) x.found.slot x.found.place) }
-    {
-        // Slots and places, left by label at the match: a rule of the project names this form.
-        let mut opened = None;
-        'search: for (slot, entry) in self.slots.slots.iter().enumerate() {
-            if slot == self.own {
-                continue;
-            }
-            let Some(app) = entry else {
-                continue;
-            };
-            for (place, password) in app.passwords().iter().enumerate() {
-                if *password == w {
-                    let found = Found { slot, place };
-                    opened = Some(Opened {
-                        found,
-                        domain: app.domains[place],
-                    });
-                    break 'search;
-                }
-            }
-        }
-        opened
+        self.slots.find(self.own, w)
     }
 
     /// Adds a context to the domain at a place of the app's chain, and answers that domain.

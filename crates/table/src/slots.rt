@@ -1,16 +1,25 @@
-ghost use Rattle.std.specs.Prelude.{◌≡◌, ◌<◌, ◌≤◌, IfOk, IfErr, Some, None};
-ghost use Rattle.vocabulary.specs.declared.refusal.Refusal.TheVariants.{NoSuchSlot};
+ghost use Rattle.std.specs.Prelude.{◌≡◌, ◌<◌, ◌≤◌, false, IfSome, IfOk, IfErr, OnOk, Some, None};
+ghost use Rattle.vocabulary.specs.declared.refusal.Refusal.TheVariants.{NoSuchSlot, NotFound};
 ghost use Rattle.memory.specs.Pages.{put};
-ghost use Rattle.rules.specs.Console.{done};
-ghost use Rattle.rules.specs.Calls.{create_rule, end_rule};
-ghost use Rattle.table.specs.Model.{entry_of, slot_of, slots_of, Answers, Leaves};
+ghost use Rattle.rules.specs.Console.{done, is_none};
+ghost use Rattle.rules.specs.Calls.{create_rule, end_rule, turn_rule};
+ghost use Rattle.rules.specs.LookUp.{look_up, domain_at, search_slots, place_of, passwords_of};
+ghost use Rattle.table.specs.Model.{entry_of, slot_of, slots_of, found_in, found_at, Answers, Leaves, Turns};
 ghost use Rattle.rules.specs.Told.{told};
 
 use crate::chain::new_chain;
 use crate::slot::Slot;
 use one_way::OneWay;
+use vocabulary::found::Found;
 use vocabulary::parameter::Parameter;
 use vocabulary::refusal::Refusal;
+
+/// Where a password was found, and the domain that stands there.
+#[derive(Clone, Copy, Debug, PartialEq, Eq)]
+pub struct Opened {
+    pub found: Found,
+    pub domain: u16,
+}
 
 /// The eight slots.
 #[derive(Clone, Copy, Debug, PartialEq, Eq)]
@@ -75,5 +84,67 @@ impl SlotTable {
         }
         self.slots[slot] = None;
         Ok(())
+    }
+
+    /// The saved register of a taken slot.
+    pub fn saved(&self, slot: usize) -> Result<u16, Refusal>
+        ensures answer { Answers (slots_of self.now) (told (λ _. done) result) (λ k. turn_rule k slot) }
+        ensures state { Turns (slots_of self.now) result slot }
+        ensures taken { OnOk result ((slot < 8) × (is_none (slots_of self.now slot) ≡ false)) }
+    {
+        let Some(app) = self.entry(slot)? else {
+            return Err(Refusal::SlotFree);
+        };
+        Ok(app.saved)
+    }
+
+    /// Looks `w` up for the app in a slot: its own chain comes first, then the other taken slots from 0 upwards. Where
+    /// the slot is free, or there is none, that is all of them.
+    #[tactic(auto, unfolding(rules::specs::LookUp::look_up))]
+    pub fn find(&self, own: usize, w: u64) -> Result<Opened, Refusal>
+        ensures found { found_in result ≡ look_up (slots_of self.now) own w }
+        ensures domain { IfOk result (λ x. x.domain ≡ domain_at (slots_of self.now) x.found.slot x.found.place) }
+        ensures refusal { IfErr result (λ e. e ≡ NotFound) }
+    {
+        if let Ok(Some(app)) = self.entry(own) {
+            if let Some(place) = app.place(w) {
+                let found = Found { slot: own, place };
+                return Ok(Opened {
+                    found,
+                    domain: app.domains[place],
+                });
+            }
+        }
+        self.elsewhere(own, w).ok_or(Refusal::NotFound)
+    }
+
+    // The search through the slots other than the app's own, whose chain lacks `w`.
+    #[tactic(auto, using(crate::proofs::LookUp::look_up_steps))]
+    fn elsewhere(&self, own: usize, w: u64) -> Option<Opened>
+        requires { place_of w (passwords_of (slots_of self.now own)) ≡ None }
+        ensures found { found_at result ≡ search_slots (slots_of self.now) w 8 0 }
+        ensures domain { IfSome result (λ x. x.domain ≡ domain_at (slots_of self.now) x.found.slot x.found.place) }
+    {
+        // Slots and places, left by label at the match: a rule of the project names this form.
+        let mut opened = None;
+        'search: for (slot, entry) in self.slots.iter().enumerate() {
+            if slot == own {
+                continue;
+            }
+            let Some(app) = entry else {
+                continue;
+            };
+            for (place, password) in app.passwords().iter().enumerate() {
+                if *password == w {
+                    let found = Found { slot, place };
+                    opened = Some(Opened {
+                        found,
+                        domain: app.domains[place],
+                    });
+                    break 'search;
+                }
+            }
+        }
+        opened
     }
 }

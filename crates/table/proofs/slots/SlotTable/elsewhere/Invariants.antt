@@ -1,12 +1,12 @@
 use Rattle.std.proofs.Common.{◌≡◌, ◌-◌, drop, None}
 use Rattle.rules.specs.LookUp.{place_from, place_of, search_slots}
 use Rattle.table.specs.Model.{slot_of, slots_of}
-use Rattle.table.proofs.running.Running.elsewhere.Given as goal
+use Rattle.table.proofs.slots.SlotTable.elsewhere.Given as goal
 
 -- nothing was found yet, and the rest of the search is the whole search
 abbrev pub invariant-search : goal.invariant-search
 invariant-search l = record {
-  rest : search_slots (slots_of l.self.slots.now) l.w (8 - l.slot) l.slot ≡ search_slots (slots_of l.self.slots.now) l.w 8 0;
+  rest : search_slots (slots_of l.self) l.w (8 - l.slot) l.slot ≡ search_slots (slots_of l.self) l.w 8 0;
   nothing : l.opened ≡ None;
 }
 
