@@ -101,9 +101,6 @@ layer_sum s =
     p_folded (s_box_layer s) ∙ ap (folded spread 16 2 16) (sum_folded s_box 16 16 16 s) ∙ folded_twice 16 s
     ∙ in_pairs (λ x. spread (s_box x)) 8 s ∙ sym (sum_folded pattern 256 4 8 s)
 
-pub pattern_small : (v : ℕ) → pattern v ≤ 0x0003_0003_0003_0003
-pattern_small v = omega arith
-
 bytes : (F : ℕ → ℕ) (s : ℕ)
     → F (s % 2 ^ 8) + F (s / 2 ^ 32 % 2 ^ 8) * 2 ^ 8
     + (F (s / 2 ^ 8 % 2 ^ 8) + F (s / 2 ^ 40 % 2 ^ 8) * 2 ^ 8) * 2 ^ 2

@@ -44,7 +44,7 @@ impl BlockCipher for Present {
     fn encrypt(parameter: Parameter, block: u64) -> u64 {
         let mut key = Register::from(parameter);
         let mut state = block ^ key.round_key();
-        // The number is that of the round, and indexes nothing.
+        // The number counts the rounds, and indexes nothing.
         for i in 0..ROUNDS {
             key = key.update(i + 1);
             state = layer(state) ^ key.round_key();

@@ -5,7 +5,7 @@ use crate::ram::Ram;
 use crate::rom::Rom;
 use crate::status_page::StatusPage;
 
-/// A memory whose kind is chosen as the program runs: an enum, since there is no heap for a box.
+/// A memory whose kind is chosen as the program runs. It owns what it is, so it is an enum: there is no heap for a box.
 #[derive(Debug, Drop)]
 pub enum AnyMemory<'a> {
     Ram(Ram<'a>),

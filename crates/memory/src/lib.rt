@@ -1,7 +1,7 @@
 //! Memories of 64 pages of 256 bytes: RAM, ROM, a status page, and two memories end to end.
 #![tactic(auto)]
 
-ghost use Rattle.std.specs.Prelude.{◌≡◌, ℕ};
+ghost use Rattle.std.specs.Prelude.{◌≡◌};
 ghost use Rattle.memory.specs.Pages.{Pages, Effect, read_at, write_at};
 
 pub mod address;

@@ -1,4 +1,4 @@
-ghost use Rattle.std.specs.Prelude.{◌≡◌, ℕ, bit_xor, refl};
+ghost use Rattle.std.specs.Prelude.{◌≡◌, ℕ, refl};
 ghost use Rattle.one_way.specs.OneWay.{feed_forward};
 ghost use Rattle.vocabulary.specs.declared.parameter.Parameter.{Parameter};
 

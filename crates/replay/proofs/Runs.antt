@@ -27,9 +27,6 @@ unfolding state
 state_is S r c = refl
 
 module _ (S : Setting) (r : Run) where
-  pub ran_none : (V : View) → V ≡ stood S r → Ran S r [] [] V
-  ran_none V e = record { hears_all = refl; leaves = e }
-
   pub ran_more : (cs : List Call) (hs : List Outcome) (V : View) → Ran S r (map call_of cs) (map heard_of hs) V
       → (c : Call) (h : Outcome) (V' : View) → Performed V (call_of c) (heard_of h) V' → Ran S r (map call_of (cs ++ c ∷ [])) (map heard_of (hs ++ h ∷ [])) V'
   ran_more cs hs V ran c h V' p =

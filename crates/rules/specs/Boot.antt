@@ -11,11 +11,15 @@ pub record Row : Type 0 where
   pub first : ℕ
   pub count : ℕ
 
+-- whether page q is one of the row's
+abbrev pub covers_page : Row → ℕ → Bool
+covers_page w q = nat_le w.first q && nat_lt q (w.first + w.count)
+
 -- each row sets its context's bit in that field of its pages
 unfoldable pub field_of_rows : List Row → Fields
 field_of_rows [] x q = 0
 field_of_rows (w ∷ ws) x q =
-    cond (w.right == right_number x && (nat_le w.first q && nat_lt q (w.first + w.count)))
+    cond (w.right == right_number x && covers_page w q)
     (with_context (field_of_rows ws x q) w.context)
     (field_of_rows ws x q)
 

@@ -6,10 +6,10 @@ use Rattle.rules.specs.Domains.{Fields}
 use Rattle.unit.specs.declared.fields.PageFields.{PageFields}
 
 -- where the fields of a right stand
-abbrev pub place_of : Right → ℕ
-place_of Read = 0
-place_of Write = 1
-place_of Execute = 2
+abbrev pub index_of : Right → ℕ
+index_of Read = 0
+index_of Write = 1
+index_of Execute = 2
 
 abbrev pub fields_of : PageFields → Fields
-fields_of f x q = slice_index (slice_index_or f.by_right (place_of x) []) q
+fields_of f x q = slice_index (slice_index_or f.by_right (index_of x) []) q

@@ -1,10 +1,10 @@
 -- Rows of the boot table and what the reader answers, in the rules' words.
-use Rattle.std.specs.Prelude.{ℕ, ◌+◌, Bool, cond, ◌&&◌, Ok, Err, Result, ◌==◌, nat_le, nat_lt}
+use Rattle.std.specs.Prelude.{ℕ, Bool, cond, ◌&&◌, Ok, Err, Result, ◌==◌}
 use Rattle.vocabulary.specs.Accesses.{right_number}
 use Rattle.vocabulary.specs.declared.access.Right.{Right}
 use Rattle.vocabulary.specs.declared.refusal.Refusal.{Refusal}
 use Rattle.vocabulary.specs.Refusals.{Reason, reason}
-use Rattle.rules.specs.Boot.{Row, field_of_rows, Booting, table_refused, table_read}
+use Rattle.rules.specs.Boot.{Row, covers_page, field_of_rows, Booting, table_refused, table_read}
 use Rattle.rules.specs.Domains.{with_context, Fields}
 use Rattle.unit.specs.declared.fields.PageFields.{PageFields}
 use Rattle.unit.specs.declared.row.Row as code
@@ -15,11 +15,11 @@ row_of w = record { context = w.context; right = right_number w.right; first = w
 
 -- contexts d of page q, with the row's context added if the page is one of the row's
 abbrev pub added_on : Row → ℕ → ℕ → ℕ
-added_on w q d = cond (nat_le w.first q && nat_lt q (w.first + w.count)) (with_context d w.context) d
+added_on w q d = cond (covers_page w q) (with_context d w.context) d
 
 -- whether the row is about right x on page q
 abbrev pub covers : Row → Right → ℕ → Bool
-covers w x q = w.right == right_number x && (nat_le w.first q && nat_lt q (w.first + w.count))
+covers w x q = w.right == right_number x && covers_page w q
 
 -- fields with a row's bits set
 abbrev pub row_set : Row → Fields → Fields

@@ -1,5 +1,6 @@
 use crate::report::Report;
 use memory::Memory;
+use memory::address::split;
 use memory::end_to_end::EndToEnd;
 use memory::ram::Ram;
 use memory::rom::Rom;
@@ -84,6 +85,7 @@ fn ram(report: &mut Report<impl Print>, alloc: Global, length: usize) -> anyhow:
         };
         probe.run(report, "RAM", &mut memory)?;
     }
+    // A count of bytes is a `usize`, which has no `From` into `u64`.
     let changed = bytes.iter().skip(16_384).filter(|byte| **byte != 7).count();
     report.expect("bytes changed past the 16,384th", changed as u64, 0)?;
     Ok(())
@@ -129,7 +131,8 @@ fn end_to_end(report: &mut Report<impl Print>, alloc: Global, border: usize) -> 
     let high = vec![in alloc; 5u8; 16_384]?;
     let mut memory = EndToEnd::new(border, Ram::new(&mut low), Rom::new(&high));
     for address in [255, 511, 16_127, 16_383] {
-        let probe = if address / 256 < border {
+        let (page, _) = split(address);
+        let probe = if page < border {
             Probe::stored(address, 7, 9)
         } else {
             Probe::kept(address, 5, 9)

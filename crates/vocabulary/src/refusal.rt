@@ -99,11 +99,22 @@ impl Refusal {
     pub fn layer(&self) -> Layer
         ensures { layer_number result ≡ (reason self.now).layer }
     {
-        match self.number() {
-            1..=3 => Layer::Reader,
-            4..=15 => Layer::Table,
-            16..=17 => Layer::Unit,
-            _ => Layer::Turn,
+        match self {
+            Refusal::TableLength | Refusal::BadRow(_) | Refusal::RowOrder(_) => Layer::Reader,
+            Refusal::NoSuchSlot
+            | Refusal::SlotTaken
+            | Refusal::DomainCount
+            | Refusal::HighHalf
+            | Refusal::Repeat(_)
+            | Refusal::SlotFree
+            | Refusal::NotFound
+            | Refusal::NotOwn
+            | Refusal::NoSuchPlace
+            | Refusal::NotMaster
+            | Refusal::NoSuchContext
+            | Refusal::NotHeld(_) => Layer::Table,
+            Refusal::NoSuchAddress(_) | Refusal::NotPermitted(_) => Layer::Unit,
+            Refusal::TooManyAccesses | Refusal::ShortBuffer => Layer::Turn,
         }
     }
 
