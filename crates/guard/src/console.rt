@@ -1,4 +1,4 @@
-ghost use Rattle.rules.specs.Console.{done, value, accepted, exec, app};
+ghost use Rattle.rules.specs.Console.{done, exec};
 ghost use Rattle.rules.specs.Console as rules;
 ghost use Rattle.rules.specs.Told.{told, told_opening};
 ghost use Rattle.std.specs.Prelude.{◌≡◌, MatchResult};
@@ -7,13 +7,13 @@ ghost use Rattle.rules.specs.Isolation.{Isolated};
 ghost use Rattle.rules.specs.Runs.{booted};
 
 use crate::inspection::Inspection;
+use crate::machine::Machine;
 use crate::tables::Tables;
 use crate::turn::Turn;
 use memory::Memory;
 use one_way::OneWay;
 use table::running::Running;
 use table::slots::SlotTable;
-use unit::fields::PageFields;
 use unit::reader::read_table;
 use vocabulary::parameter::Parameter;
 use vocabulary::refusal::{Refusal, Refused};
@@ -21,9 +21,7 @@ use vocabulary::refusal::{Refusal, Refused};
 /// The console between turns.
 #[derive(Drop)]
 pub struct Console<'a, F, M> {
-    pub(crate) function: F,
-    pub(crate) memory: M,
-    pub(crate) fields: &'a PageFields,
+    pub(crate) machine: Machine<'a, F, M>,
     pub(crate) slots: &'a mut SlotTable,
 }
 
@@ -47,9 +45,11 @@ impl<'a, F: OneWay, M: Memory> Console<'a, F, M> {
                 tables.fields = fields;
                 tables.slots = SlotTable::new();
                 Ok(Console {
-                    function,
-                    memory,
-                    fields: &tables.fields,
+                    machine: Machine {
+                        function,
+                        memory,
+                        fields: &tables.fields,
+                    },
                     slots: &mut tables.slots,
                 })
             }
@@ -71,7 +71,7 @@ impl<'a, F: OneWay, M: Memory> Console<'a, F, M> {
         ensures { Obeys (between F.OneWay M.Memory self.old) (exec (rules.create slot parameter master domains.now)) (told (λ _. done) result) (between F.OneWay M.Memory self.new) }
     {
         self.slots
-            .create(&self.function, slot, parameter, master, domains)
+            .create(&self.machine.function, slot, parameter, master, domains)
     }
 
     /// Ends the app in a slot, and frees the slot.
@@ -87,17 +87,11 @@ impl<'a, F: OneWay, M: Memory> Console<'a, F, M> {
     {
         match self.slots.saved(slot) {
             Ok(register) => {
-                let Console {
-                    function,
-                    memory,
-                    fields,
-                    slots,
-                } = self;
+                let Console { machine, slots } = self;
+                let app = Running::new(slots, slot);
                 Ok(Turn {
-                    function,
-                    memory,
-                    fields,
-                    app: Running::new(slots, slot),
+                    machine,
+                    app,
                     register,
                 })
             }
@@ -113,11 +107,11 @@ impl<'a, F: OneWay, M: Memory> Console<'a, F, M> {
         ensures { inspected F.OneWay M.Memory result ≡ between F.OneWay M.Memory self.now }
     {
         Inspection {
-            fields: self.fields,
+            fields: self.machine.fields,
             slots: self.slots,
             register: 0,
             running: None,
-            memory: &self.memory,
+            memory: &self.machine.memory,
         }
     }
 }

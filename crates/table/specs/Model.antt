@@ -1,5 +1,5 @@
 -- The table in the rules' words.
-use Rattle.std.specs.Prelude.{◌≡◌, ℕ, List, length, take, Some, None, Ok, Err, Option, Result, slice_index_or}
+use Rattle.std.specs.Prelude.{◌≡◌, ℕ, List, length, take, Some, None, Ok, Err, Option, Result, slice_index_or, nat_lt}
 use Rattle.vocabulary.specs.declared.found.Found.{Found}
 use Rattle.vocabulary.specs.declared.refusal.Refusal.{Refusal}
 use Rattle.vocabulary.specs.declared.parameter.Parameter.{Parameter}
@@ -50,6 +50,10 @@ new_passwords way σ w p = chain way.H p (length σ.passwords) w
 
 abbrev pub rekey_asks : Meaning → rules.Slot → ℕ → Parameter → Outcome → Outcome
 rekey_asks way σ w p o = ask (is_master σ w) (by_table 13 0) (admit way.greatest p (new_passwords way σ w p) o)
+
+-- what is asked of the app in slot s, if there is one
+abbrev pub in_slot : ℕ → (Console → rules.Slot → Outcome) → Console → Outcome
+in_slot s rule k = ask (nat_lt s 8) (by_table 4 0) (need (k.slots s) (by_table 9 0) (λ σ. rule k σ))
 
 -- the rule of a call of the app in slot s
 abbrev pub in_turn : ℕ → (Console → rules.Slot → Outcome) → Console → Outcome

@@ -94,9 +94,7 @@ impl Slot {
         ensures answer { (k : Console) → told value result ≡ answer_of (derive_rule k (slot_of self.now) w n) }
         ensures state { (k : Console) → k ≡ after k (derive_rule k (slot_of self.now) w n) }
     {
-        let Some(place) = self.place(w) else {
-            return Err(Refusal::NotOwn);
-        };
+        let place = self.place(w).ok_or(Refusal::NotOwn)?;
         if n >= self.length - place {
             return Err(Refusal::NoSuchPlace);
         }

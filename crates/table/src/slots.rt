@@ -1,10 +1,10 @@
-ghost use Rattle.std.specs.Prelude.{◌≡◌, ◌<◌, ◌≤◌, false, IfSome, IfOk, IfErr, OnOk, Some, None};
-ghost use Rattle.vocabulary.specs.declared.refusal.Refusal.TheVariants.{NoSuchSlot, NotFound};
+ghost use Rattle.std.specs.Prelude.{◌≡◌, ◌<◌, ◌≤◌, ◌⊎◌, false, IfSome, IfOk, IfErr, OnOk, Some, None};
+ghost use Rattle.vocabulary.specs.declared.refusal.Refusal.TheVariants.{NoSuchSlot, NotFound, SlotFree};
 ghost use Rattle.memory.specs.Pages.{put};
-ghost use Rattle.rules.specs.Console.{done, is_none};
-ghost use Rattle.rules.specs.Calls.{create_rule, end_rule, turn_rule};
+ghost use Rattle.rules.specs.Console.{done, value, is_none};
+ghost use Rattle.rules.specs.Calls.{create_rule, end_rule, turn_rule, derive_rule};
 ghost use Rattle.rules.specs.LookUp.{look_up, domain_at, search_slots, place_of, passwords_of};
-ghost use Rattle.table.specs.Model.{entry_of, slot_of, slots_of, found_in, found_at, Answers, Leaves, Turns};
+ghost use Rattle.table.specs.Model.{entry_of, slot_of, slots_of, found_in, found_at, in_slot, Answers, Leaves, Turns};
 ghost use Rattle.rules.specs.Told.{told};
 
 use crate::chain::new_chain;
@@ -66,6 +66,14 @@ impl SlotTable {
         self.slots.get(slot).ok_or(Refusal::NoSuchSlot)
     }
 
+    // The app in a slot.
+    fn taken(&self, slot: usize) -> Result<&Slot, Refusal>
+        ensures there { IfOk result (λ app. (slot < 8) × (slots_of self.now slot ≡ Some (slot_of app.now))) }
+        ensures absent { IfErr result (λ e. (8 ≤ slot) × (e ≡ NoSuchSlot) ⊎ (slot < 8) × (slots_of self.now slot ≡ None) × (e ≡ SlotFree)) }
+    {
+        self.entry(slot)?.as_ref().ok_or(Refusal::SlotFree)
+    }
+
     // Stores the record of an app.
     fn store(&mut self, slot: usize, app: Slot)
         requires { slot < 8 }
@@ -79,9 +87,7 @@ impl SlotTable {
         ensures answer { Answers (slots_of self.old) (told (λ _. done) result) (λ k. end_rule k slot) }
         ensures state { Leaves (slots_of self.old) (slots_of self.new) (λ k. end_rule k slot) }
     {
-        if self.entry(slot)?.is_none() {
-            return Err(Refusal::SlotFree);
-        }
+        self.taken(slot)?;
         self.slots[slot] = None;
         Ok(())
     }
@@ -92,10 +98,15 @@ impl SlotTable {
         ensures state { Turns (slots_of self.now) result slot }
         ensures taken { OnOk result ((slot < 8) × (is_none (slots_of self.now slot) ≡ false)) }
     {
-        let Some(app) = self.entry(slot)? else {
-            return Err(Refusal::SlotFree);
-        };
-        Ok(app.saved)
+        Ok(self.taken(slot)?.saved)
+    }
+
+    /// The password `n` places after `w` in the chain of the app in a taken slot.
+    pub fn derive(&self, slot: usize, w: u64, n: usize) -> Result<u64, Refusal>
+        ensures answer { Answers (slots_of self.now) (told value result) (in_slot slot (λ k σ. derive_rule k σ w n)) }
+        ensures state { Leaves (slots_of self.now) (slots_of self.now) (in_slot slot (λ k σ. derive_rule k σ w n)) }
+    {
+        self.taken(slot)?.derived(w, n)
     }
 
     /// Looks `w` up for the app in a slot: its own chain comes first, then the other taken slots from 0 upwards. Where

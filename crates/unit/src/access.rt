@@ -1,10 +1,10 @@
 ghost use Rattle.std.specs.Prelude.{◌≡◌};
-ghost use Rattle.vocabulary.specs.declared.access.Access.TheVariants.{Write};
+ghost use Rattle.vocabulary.specs.declared.access.Access.TheVariants.{Read, Write, Fetch};
 ghost use Rattle.vocabulary.specs.Accesses.{address_of};
 ghost use Rattle.memory.specs.Pages.{byte_in};
 ghost use Rattle.rules.specs.Console.{done, value};
 ghost use Rattle.rules.specs.Told.{refusal_in, told};
-ghost use Rattle.rules.specs.Visits.{fault_of, pages_after};
+ghost use Rattle.rules.specs.Visits.{fault_of, reply_to, pages_after};
 ghost use Rattle.unit.specs.Model.{fields_of};
 ghost use Rattle.unit.specs.Visits.{fault_at, answered, pages_unless};
 
@@ -31,8 +31,38 @@ impl PageFields {
         Ok(())
     }
 
-    /// Makes a read or a fetch under a domain: the byte that it gives. Outside a visit the place is 0.
-    pub fn load<M: Memory>(
+    /// Reads a byte under a domain.
+    pub fn read<M: Memory>(&self, domain: u16, memory: &M, address: usize) -> Result<u8, Refusal>
+        ensures { told value result ≡ answered 0 (fault_of (fields_of self.now) domain (Read address)) (reply_to (M.Memory.pages memory.now).page (Read address)) }
+    {
+        self.load(domain, memory, Access::Read(address), 0)
+    }
+
+    /// Fetches a byte under a domain.
+    pub fn fetch<M: Memory>(&self, domain: u16, memory: &M, address: usize) -> Result<u8, Refusal>
+        ensures { told value result ≡ answered 0 (fault_of (fields_of self.now) domain (Fetch address)) (reply_to (M.Memory.pages memory.now).page (Fetch address)) }
+    {
+        self.load(domain, memory, Access::Fetch(address), 0)
+    }
+
+    /// Writes a byte under a domain.
+    pub fn write<M: Memory>(
+        &self,
+        domain: u16,
+        memory: &mut M,
+        address: usize,
+        byte: u8,
+    ) -> Result<(), Refusal>
+        ensures answer { told (λ _. done) result ≡ answered 0 (fault_of (fields_of self.now) domain (Write address byte)) done }
+        ensures pages { (M.Memory.pages memory.new).page ≡ pages_unless (fault_of (fields_of self.now) domain (Write address byte)) (M.Memory.pages memory.old).page (pages_after (M.Memory.effect memory.old) (M.Memory.pages memory.old).page (Write address byte)) }
+        // The memory's own fact, which no type of ours can hold: the memory is the caller's.
+        ensures effect { M.Memory.effect memory.new ≡ M.Memory.effect memory.old }
+    {
+        self.store(domain, memory, address, byte, 0)
+    }
+
+    // A read or a fetch, which stands at this place of a visit: the byte that it gives.
+    pub(crate) fn load<M: Memory>(
         &self,
         domain: u16,
         memory: &M,
@@ -45,8 +75,8 @@ impl PageFields {
         Ok(memory.read(access.address()))
     }
 
-    /// Writes a byte under a domain. Outside a visit the place is 0.
-    pub fn store<M: Memory>(
+    // A write, which stands at this place of a visit.
+    pub(crate) fn store<M: Memory>(
         &self,
         domain: u16,
         memory: &mut M,
