@@ -8,6 +8,7 @@ use memory::Memory;
 pub fn store<M: Memory>(memory: &mut M, first: usize, bytes: &[u8])
     requires { first + length bytes.now < 2 ^ 64 }
     ensures pages { (M.Memory.pages memory.new).page ≡ stored_from (M.Memory.effect memory.old) (M.Memory.pages memory.old).page first bytes.now }
+    // The memory's own fact, which no type of ours can hold: the memory is the caller's.
     ensures effect { M.Memory.effect memory.new ≡ M.Memory.effect memory.old }
 {
     for (i, byte) in bytes.iter().enumerate() {

@@ -40,6 +40,7 @@ impl<'a, F: OneWay, M: Memory> Console<'a, F, M> {
         ensures state { MatchResult result (λ c. between F.OneWay M.Memory c ≡ record { machine = (setting F.OneWay M.Memory table.now memory).machine; console = booted (setting F.OneWay M.Memory table.now memory) }) (λ x. x.given_back ≡ (function, memory)) }
         ensures isolated { Isolated (setting F.OneWay M.Memory table.now memory) }
     {
+        // By `match`, here and in `turn`: a refusal hands back by value what the other arm keeps.
         match read_table(table) {
             Ok(fields) => {
                 tables.fields = fields;

@@ -1,5 +1,6 @@
 -- Calls and outcomes of the code, in the rules' words.
-use Rattle.std.specs.Prelude.{◌≡◌, ℕ, List, [], ◌∷◌, vec_items}
+use Rattle.std.specs.Prelude.{◌≡◌, ℕ, List, [], ◌∷◌, map, vec_items, MatchResult, Result, Vec}
+use Rattle.std.specs.declared.alloc.Global.{Global}
 use Rattle.vocabulary.specs.declared.access.Access.TheVariants.{Read, Write, Fetch}
 use Rattle.one_way.specs.declared.OneWay.{Ghosts as Function}
 use Rattle.memory.specs.declared.Memory.{Ghosts as Memory}
@@ -89,3 +90,7 @@ stood S r = record { machine = S.machine; console = state S r }
 pub record Ran (S : Setting) (r : Run) (cs : List rules.Call) (heard : List Heard) (left : View) : Type 0 where
   pub hears_all : heard ≡ heard_on S r cs
   pub leaves : left ≡ stood S (run_on r cs)
+
+-- what a replay from boot leaves and tells: all calls were performed, or, for want of memory, none
+abbrev pub Replayed : {E : Type 0} → Setting → List rules.Call → View → Result (Vec Outcome Global) E → Type 0
+Replayed S cs left r = MatchResult r (λ outcomes. Ran S [] cs (map heard_of (vec_items outcomes)) left) (λ _. left ≡ stood S [])

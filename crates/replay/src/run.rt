@@ -1,11 +1,11 @@
-ghost use Rattle.std.specs.Prelude.{◌≡◌, [], map, IfOk, IfErr, MatchResult};
+ghost use Rattle.std.specs.Prelude.{◌≡◌, map, IfOk, IfErr, MatchResult};
 ghost use Rattle.rules.specs.Boot.{boot_rule};
 ghost use Rattle.rules.specs.Console.{Setting};
 ghost use Rattle.rules.specs.Isolation.{Isolated};
 ghost use Rattle.rules.specs.Runs.{Run};
 ghost use Rattle.rules.specs.Told.{told_opening};
 ghost use Rattle.guard.specs.Model.{between as view_between, during as view_during, boot_answer, setting};
-ghost use Rattle.replay.specs.Model.{Performed, Ran, call_of, heard_of, stood, view};
+ghost use Rattle.replay.specs.Model.{Performed, Ran, Replayed, call_of, heard_of, stood, view};
 
 use crate::call::{Call, Outcome, Reply};
 use crate::stage::Stage;
@@ -29,7 +29,7 @@ pub fn replay<'a, F: OneWay, M: Memory>(
     calls: Vec<Call>,
 ) -> Result<(Stage<'a, F, M>, Result<Vec<Outcome>, AllocError>), Refused<(F, M)>>
     ensures boot { told_opening result ≡ boot_answer (boot_rule table.now) }
-    ensures ran { MatchResult result (λ x. MatchResult x.1 (λ v. Ran (setting F.OneWay M.Memory table.now memory) [] (map call_of calls.items) (map heard_of v.items) (view F.OneWay M.Memory x.0)) (λ _. view F.OneWay M.Memory x.0 ≡ stood (setting F.OneWay M.Memory table.now memory) [])) (λ x. x.given_back ≡ (function, memory)) }
+    ensures ran { MatchResult result (λ x. Replayed (setting F.OneWay M.Memory table.now memory) (map call_of calls.items) (view F.OneWay M.Memory x.0) x.1) (λ x. x.given_back ≡ (function, memory)) }
     ensures isolated { Isolated (setting F.OneWay M.Memory table.now memory) }
 {
     let console = Console::boot(tables, table, function, memory)?;
@@ -46,6 +46,7 @@ pub fn perform_all<'a, F: OneWay, M: Memory>(
     ensures ran { (S : Setting) (run : Run) → view F.OneWay M.Memory stage.entry ≡ stood S run → IfOk result.1 (λ v. Ran S run (map call_of calls.items) (map heard_of v.items) (view F.OneWay M.Memory result.0)) }
     ensures none { IfErr result.1 (λ _. view F.OneWay M.Memory result.0 ≡ view F.OneWay M.Memory stage.entry) }
 {
+    // By `match`, since the stage comes back beside the error.
     let mut outcomes = match Vec::with_capacity(heap, calls.len()) {
         Ok(outcomes) => outcomes,
         Err(error) => return (stage, Err(error)),

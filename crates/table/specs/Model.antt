@@ -67,6 +67,11 @@ Answers f a rule = (g : Register) (t : Option ℕ) (m : ℕ → Page) → a ≡ 
 abbrev pub Leaves : (ℕ → Option rules.Slot) → (ℕ → Option rules.Slot) → (Console → Outcome) → Type 0
 Leaves f f' rule = (g : Register) (t : Option ℕ) (m : ℕ → Page) → console_with f' g t m ≡ after (console_with f g t m) (rule (console_with f g t m))
 
+-- both: the rule's answer, and what it leaves
+pub record Follows (f f' : ℕ → Option rules.Slot) (a : Answer) (rule : Console → Outcome) : Type 0 where
+  pub answers : Answers f a rule
+  pub leaves : Leaves f f' rule
+
 -- there the rule of turn begins a turn of slot s with the register that the code gives, or leaves all as it is
 abbrev pub turned : ℕ → Result ℕ Refusal → Console → Console
 turned s (Ok d) k = record { slots = k.slots; register = holding d; turn_of = Some s; pages = k.pages }

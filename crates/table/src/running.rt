@@ -5,7 +5,7 @@ ghost use Rattle.rules.specs.Calls.{grant_rule, revoke_rule, derive_rule, rekey_
 ghost use Rattle.rules.specs.LookUp.{look_up, domain_at};
 ghost use Rattle.rules.specs.Told.{told};
 ghost use Rattle.vocabulary.specs.declared.refusal.Refusal.TheVariants.{NotFound};
-ghost use Rattle.table.specs.Model.{slot_of, slots_of, found_in, in_turn, Answers, Leaves, Closes};
+ghost use Rattle.table.specs.Model.{slot_of, slots_of, found_in, in_turn, Follows, Closes};
 
 use crate::slot::Slot;
 use crate::slots::{Opened, SlotTable};
@@ -95,8 +95,7 @@ impl<'a> Running<'a> {
 
     /// Adds a context to the domain at a place of the app's chain, and answers that domain.
     pub fn grant(&mut self, w: u64, place: usize, context: usize) -> Result<u16, Refusal>
-        ensures answer { Answers (slots_in self.old) (told value result) (in_turn self.old.own (λ k σ. grant_rule k self.old.own σ w place context)) }
-        ensures state { Leaves (slots_in self.old) (slots_in self.new) (in_turn self.old.own (λ k σ. grant_rule k self.old.own σ w place context)) }
+        ensures follows { Follows (slots_in self.old) (slots_in self.new) (told value result) (in_turn self.old.own (λ k σ. grant_rule k self.old.own σ w place context)) }
         ensures same { SameTurn self.old self.new }
     {
         let app = self.app();
@@ -106,11 +105,9 @@ impl<'a> Running<'a> {
         Ok(domain)
     }
 
-    /// Removes a context likewise. One function for both would take what the record is asked as a closure, with clauses
-    /// that are longer than these lines.
+    /// Removes a context likewise. The lines that both share would make a function whose clauses are longer than they.
     pub fn revoke(&mut self, w: u64, place: usize, context: usize) -> Result<u16, Refusal>
-        ensures answer { Answers (slots_in self.old) (told value result) (in_turn self.old.own (λ k σ. revoke_rule k self.old.own σ w place context)) }
-        ensures state { Leaves (slots_in self.old) (slots_in self.new) (in_turn self.old.own (λ k σ. revoke_rule k self.old.own σ w place context)) }
+        ensures follows { Follows (slots_in self.old) (slots_in self.new) (told value result) (in_turn self.old.own (λ k σ. revoke_rule k self.old.own σ w place context)) }
         ensures same { SameTurn self.old self.new }
     {
         let app = self.app();
@@ -122,8 +119,7 @@ impl<'a> Running<'a> {
 
     /// The password `n` places after `w` in the app's own chain.
     pub fn derive(&self, w: u64, n: usize) -> Result<u64, Refusal>
-        ensures answer { Answers (slots_in self.now) (told value result) (in_turn self.now.own (λ k σ. derive_rule k σ w n)) }
-        ensures state { Leaves (slots_in self.now) (slots_in self.now) (in_turn self.now.own (λ k σ. derive_rule k σ w n)) }
+        ensures { Follows (slots_in self.now) (slots_in self.now) (told value result) (in_turn self.now.own (λ k σ. derive_rule k σ w n)) }
     {
         self.app().derived(w, n)
     }
@@ -135,8 +131,7 @@ impl<'a> Running<'a> {
         w: u64,
         parameter: Parameter,
     ) -> Result<(), Refusal>
-        ensures answer { Answers (slots_in self.old) (told (λ _. done) result) (in_turn self.old.own (λ k σ. rekey_rule F.OneWay.meaning k self.old.own σ w parameter)) }
-        ensures state { Leaves (slots_in self.old) (slots_in self.new) (in_turn self.old.own (λ k σ. rekey_rule F.OneWay.meaning k self.old.own σ w parameter)) }
+        ensures follows { Follows (slots_in self.old) (slots_in self.new) (told (λ _. done) result) (in_turn self.old.own (λ k σ. rekey_rule F.OneWay.meaning k self.old.own σ w parameter)) }
         ensures same { SameTurn self.old self.new }
     {
         let app = self.app();

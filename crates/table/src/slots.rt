@@ -4,7 +4,7 @@ ghost use Rattle.memory.specs.Pages.{put};
 ghost use Rattle.rules.specs.Console.{done, value, is_none};
 ghost use Rattle.rules.specs.Calls.{create_rule, end_rule, turn_rule, derive_rule};
 ghost use Rattle.rules.specs.LookUp.{look_up, domain_at, search_slots, place_of, passwords_of};
-ghost use Rattle.table.specs.Model.{entry_of, slot_of, slots_of, found_in, found_at, in_slot, Answers, Leaves, Turns};
+ghost use Rattle.table.specs.Model.{entry_of, slot_of, slots_of, found_in, found_at, in_slot, Answers, Follows, Turns};
 ghost use Rattle.rules.specs.Told.{told};
 
 use crate::chain::new_chain;
@@ -44,8 +44,7 @@ impl SlotTable {
         master: u64,
         domains: &[u16],
     ) -> Result<(), Refusal>
-        ensures answer { Answers (slots_of self.old) (told (λ _. done) result) (λ k. create_rule F.OneWay.meaning k slot parameter master domains.now) }
-        ensures state { Leaves (slots_of self.old) (slots_of self.new) (λ k. create_rule F.OneWay.meaning k slot parameter master domains.now) }
+        ensures { Follows (slots_of self.old) (slots_of self.new) (told (λ _. done) result) (λ k. create_rule F.OneWay.meaning k slot parameter master domains.now) }
     {
         if self.entry(slot)?.is_some() {
             return Err(Refusal::SlotTaken);
@@ -84,8 +83,7 @@ impl SlotTable {
 
     /// Frees a slot.
     pub fn end(&mut self, slot: usize) -> Result<(), Refusal>
-        ensures answer { Answers (slots_of self.old) (told (λ _. done) result) (λ k. end_rule k slot) }
-        ensures state { Leaves (slots_of self.old) (slots_of self.new) (λ k. end_rule k slot) }
+        ensures { Follows (slots_of self.old) (slots_of self.new) (told (λ _. done) result) (λ k. end_rule k slot) }
     {
         self.taken(slot)?;
         self.slots[slot] = None;
@@ -103,8 +101,7 @@ impl SlotTable {
 
     /// The password `n` places after `w` in the chain of the app in a taken slot.
     pub fn derive(&self, slot: usize, w: u64, n: usize) -> Result<u64, Refusal>
-        ensures answer { Answers (slots_of self.now) (told value result) (in_slot slot (λ k σ. derive_rule k σ w n)) }
-        ensures state { Leaves (slots_of self.now) (slots_of self.now) (in_slot slot (λ k σ. derive_rule k σ w n)) }
+        ensures { Follows (slots_of self.now) (slots_of self.now) (told value result) (in_slot slot (λ k σ. derive_rule k σ w n)) }
     {
         self.taken(slot)?.derived(w, n)
     }

@@ -65,6 +65,7 @@ impl PageFields {
         requires { length accesses.now ≤ length buffer.old }
         ensures register { register.new ≡ register.old }
         ensures reply { visit_reply buffer.new result ≡ reply_of (visiting (fields_of self.now) (M.Memory.effect memory.old) accesses.now domain (M.Memory.pages memory.old).page 0) buffer.old }
+        // The last clause is the memory's own fact, as in `write`.
         ensures pages { (M.Memory.pages memory.new).page ≡ (visiting (fields_of self.now) (M.Memory.effect memory.old) accesses.now domain (M.Memory.pages memory.old).page 0).left }
         ensures effect { M.Memory.effect memory.new ≡ M.Memory.effect memory.old }
     {
