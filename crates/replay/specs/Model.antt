@@ -5,7 +5,7 @@ use Rattle.vocabulary.specs.declared.access.Access.TheVariants.{Read, Write, Fet
 use Rattle.one_way.specs.declared.OneWay.{Ghosts as Function}
 use Rattle.memory.specs.declared.Memory.{Ghosts as Memory}
 use Rattle.rules.specs.Console as rules
-use Rattle.rules.specs.Console.{Setting, exec, app, create, end, turn, close, activate, visit, grant, revoke, derive, rekey, access, Answer, refused, accepted, done, value, out_of_turn, answer_of, after}
+use Rattle.rules.specs.Console.{Setting, exec, app, create, end, turn, close, activate, visit, grant, revoke, derive, rekey, access, Answer, refused, done, value, out_of_turn, answer_of, after}
 use Rattle.rules.specs.Calls.{rule, buffer_after}
 use Rattle.rules.specs.Told.{told}
 use Rattle.rules.specs.Runs.{Run, state, answer, run_on}

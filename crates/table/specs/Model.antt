@@ -8,7 +8,7 @@ use Rattle.one_way.specs.Chains.{chain}
 use Rattle.one_way.specs.OneWay.{Meaning}
 use Rattle.memory.specs.Pages.{Page}
 use Rattle.rules.specs.Console as rules
-use Rattle.rules.specs.Console.{Register, holding, Console, Reply, Answer, refused, accepted, Outcome, refuse, answer_of, after, ask, need, out_of_turn}
+use Rattle.rules.specs.Console.{Register, holding, Console, Answer, Outcome, answer_of, after, ask, need, out_of_turn}
 use Rattle.rules.specs.Calls.{is_master, admit, turn_rule, close_rule}
 use Rattle.table.specs.declared.slot.Slot.{Slot}
 use Rattle.table.specs.declared.slots.SlotTable.{SlotTable}

@@ -1,9 +1,6 @@
 use Rattle.std.proofs.Common.{◌≡◌, ℕ, ◌≤◌, min, subst, arith}
-use Rattle.one_way.proofs.Places.{Filled, filled_first, filled_next, filled_all}
+use Rattle.one_way.proofs.Places.{Filled, filled_next, filled_all}
 use Rattle.one_way.proofs.chain.chain.Goals as goal
-
-pub loop-i-init : goal.loop-i-init
-loop-i-init g c = filled_first _ _ _ _ (omega arith)
 
 pub loop-i-preserved : goal.loop-i-preserved
 loop-i-preserved g c =
