@@ -103,7 +103,8 @@ impl<'a, F: OneWay, M: Memory> Console<'a, F, M> {
         }
     }
 
-    /// Looks at the console between turns: its register is 0, and no slot's turn is open.
+    /// Looks at the console between turns: its register is 0, and no slot's turn is open. `Turn::inspect` says why they
+    /// are two.
     pub fn inspect(&self) -> Inspection<'_, M>
         ensures { inspected F.OneWay M.Memory result ≡ between F.OneWay M.Memory self.now }
     {

@@ -1,7 +1,8 @@
 -- The table in the rules' words.
-use Rattle.std.specs.Prelude.{◌≡◌, ℕ, List, length, take, Some, None, Ok, Err, Option, Result, slice_index_or, nat_lt}
+use Rattle.std.specs.Prelude.{◌≡◌, ℕ, List, length, take, Some, None, Ok, Err, Option, Result, IfOk, IfErr, slice_index_or, nat_lt}
 use Rattle.vocabulary.specs.declared.found.Found.{Found}
 use Rattle.vocabulary.specs.declared.refusal.Refusal.{Refusal}
+use Rattle.vocabulary.specs.declared.refusal.Refusal.TheVariants.{NotFound}
 use Rattle.vocabulary.specs.declared.parameter.Parameter.{Parameter}
 use Rattle.vocabulary.specs.Refusals.{by_table}
 use Rattle.one_way.specs.Chains.{chain}
@@ -10,6 +11,7 @@ use Rattle.memory.specs.Pages.{Page}
 use Rattle.rules.specs.Console as rules
 use Rattle.rules.specs.Console.{Register, holding, Console, Answer, Outcome, answer_of, after, ask, need, out_of_turn}
 use Rattle.rules.specs.Calls.{is_master, admit, turn_rule, close_rule}
+use Rattle.rules.specs.LookUp.{look_up, domain_at}
 use Rattle.table.specs.declared.slot.Slot.{Slot}
 use Rattle.table.specs.declared.slots.SlotTable.{SlotTable}
 use Rattle.table.specs.declared.slots.Opened.{Opened}
@@ -43,6 +45,12 @@ found_in (Err e) = None
 abbrev pub found_at : Option Opened → Option Found
 found_at (Some x) = Some x.found
 found_at None = None
+
+-- what the look-up for slot s answers of w: where it stands and the domain there, or that no chain has it
+pub record Finds (f : ℕ → Option rules.Slot) (s w : ℕ) (r : Result Opened Refusal) : Type 0 where
+  pub found : found_in r ≡ look_up f s w
+  pub domain : IfOk r (λ x. x.domain ≡ domain_at f x.found.slot x.found.place)
+  pub refusal : IfErr r (λ e. e ≡ NotFound)
 
 -- rekey: the passwords that it makes, and its questions
 abbrev pub new_passwords : Meaning → rules.Slot → ℕ → Parameter → List ℕ

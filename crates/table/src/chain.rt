@@ -11,7 +11,8 @@ use one_way::chain::chain;
 use vocabulary::parameter::Parameter;
 use vocabulary::refusal::Refusal;
 
-/// The lowest place whose password an earlier place holds too.
+/// The lowest place whose password an earlier place holds too. By a loop: with `position` and a closure that looks at the
+/// places before, the proof stays open.
 #[tactic(auto, using(crate::proofs::Search::repeat_steps))]
 fn first_repeat(passwords: &[u64]) -> Option<usize>
     ensures { result ≡ rules.first_repeat passwords.now }
@@ -25,7 +26,8 @@ fn first_repeat(passwords: &[u64]) -> Option<usize>
 }
 
 /// A new chain, made whole: its high half is admitted, and no password repeats. It stands in eight places with the
-/// length beside them, since there is no heap.
+/// length beside them, since there is no heap; that none repeats is told by a clause, since a rule of the project wants the
+/// plain array.
 #[tactic(auto, using(one_way::proofs::Places::front), unfolding(crate::specs::Sound::no_repeat))]
 pub(crate) fn new_chain<F: OneWay>(
     function: &F,
@@ -43,8 +45,8 @@ pub(crate) fn new_chain<F: OneWay>(
     }
     // Eight passwords by value, whatever the length: a rule of the project names this form.
     let passwords = chain(function, parameter, master, length);
-    match first_repeat(&passwords[..length]) {
-        Some(place) => Err(Refusal::Repeat(place)),
-        None => Ok(passwords),
+    if let Some(place) = first_repeat(&passwords[..length]) {
+        return Err(Refusal::Repeat(place));
     }
+    Ok(passwords)
 }

@@ -1,11 +1,9 @@
-ghost use Rattle.std.specs.Prelude.{◌≡◌, ◌<◌, false, IfOk, IfErr, Some};
+ghost use Rattle.std.specs.Prelude.{◌≡◌, ◌<◌, false, Some};
 ghost use Rattle.memory.specs.Pages.{put};
 ghost use Rattle.rules.specs.Console.{done, value, is_none};
 ghost use Rattle.rules.specs.Calls.{grant_rule, revoke_rule, derive_rule, rekey_rule};
-ghost use Rattle.rules.specs.LookUp.{look_up, domain_at};
 ghost use Rattle.rules.specs.Told.{told};
-ghost use Rattle.vocabulary.specs.declared.refusal.Refusal.TheVariants.{NotFound};
-ghost use Rattle.table.specs.Model.{slot_of, slots_of, found_in, in_turn, Follows, Closes};
+ghost use Rattle.table.specs.Model.{slot_of, slots_of, in_turn, Finds, Follows, Closes};
 
 use crate::slot::Slot;
 use crate::slots::{Opened, SlotTable};
@@ -13,7 +11,8 @@ use one_way::OneWay;
 use vocabulary::parameter::Parameter;
 use vocabulary::refusal::Refusal;
 
-/// The slot table in the turn of the app in a slot, which stays taken until the turn closes.
+/// The slot table in the turn of the app in a slot, which stays taken until the turn closes. That a call keeps both is said
+/// of each (`SameTurn`), since no type says what a call leaves alone.
 #[derive(Drop)]
 pub struct Running<'a> {
     slots: &'a mut SlotTable,
@@ -86,9 +85,7 @@ impl<'a> Running<'a> {
 
     /// Looks `w` up: the app's own chain comes first, then the other taken slots from 0 upwards.
     pub fn find(&self, w: u64) -> Result<Opened, Refusal>
-        ensures found { found_in result ≡ look_up (slots_in self.now) self.now.own w }
-        ensures domain { IfOk result (λ x. x.domain ≡ domain_at (slots_in self.now) x.found.slot x.found.place) }
-        ensures refusal { IfErr result (λ e. e ≡ NotFound) }
+        ensures { Finds (slots_in self.now) self.now.own w result }
     {
         self.slots.find(self.own, w)
     }

@@ -12,8 +12,7 @@ use vocabulary::parameter::Parameter;
 use vocabulary::refusal::Refusal;
 
 /// A taken slot: the chain's passwords with their domains, of which `length` count. The chain has 1 to 8 passwords, no
-/// two of them are equal, and no domain lies outside the reach. Two plain arrays beside the length, since there is no
-/// heap.
+/// two of them are equal, and no domain lies outside the reach.
 #[derive(Clone, Copy, Debug, PartialEq, Eq)]
 pub struct Slot {
     pub(crate) parameter: Parameter,

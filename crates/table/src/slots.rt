@@ -1,10 +1,10 @@
 ghost use Rattle.std.specs.Prelude.{◌≡◌, ◌<◌, ◌≤◌, ◌⊎◌, false, IfSome, IfOk, IfErr, OnOk, Some, None};
-ghost use Rattle.vocabulary.specs.declared.refusal.Refusal.TheVariants.{NoSuchSlot, NotFound, SlotFree};
+ghost use Rattle.vocabulary.specs.declared.refusal.Refusal.TheVariants.{NoSuchSlot, SlotFree};
 ghost use Rattle.memory.specs.Pages.{put};
 ghost use Rattle.rules.specs.Console.{done, value, is_none};
 ghost use Rattle.rules.specs.Calls.{create_rule, end_rule, turn_rule, derive_rule};
-ghost use Rattle.rules.specs.LookUp.{look_up, domain_at, search_slots, place_of, passwords_of};
-ghost use Rattle.table.specs.Model.{entry_of, slot_of, slots_of, found_in, found_at, in_slot, Answers, Follows, Turns};
+ghost use Rattle.rules.specs.LookUp.{domain_at, search_slots, place_of, passwords_of};
+ghost use Rattle.table.specs.Model.{entry_of, slot_of, slots_of, found_at, in_slot, Answers, Finds, Follows, Turns};
 ghost use Rattle.rules.specs.Told.{told};
 
 use crate::chain::new_chain;
@@ -110,9 +110,7 @@ impl SlotTable {
     /// the slot is free, or there is none, that is all of them.
     #[tactic(auto, unfolding(rules::specs::LookUp::look_up))]
     pub fn find(&self, own: usize, w: u64) -> Result<Opened, Refusal>
-        ensures found { found_in result ≡ look_up (slots_of self.now) own w }
-        ensures domain { IfOk result (λ x. x.domain ≡ domain_at (slots_of self.now) x.found.slot x.found.place) }
-        ensures refusal { IfErr result (λ e. e ≡ NotFound) }
+        ensures { Finds (slots_of self.now) own w result }
     {
         if let Ok(Some(app)) = self.entry(own) {
             if let Some(place) = app.place(w) {

@@ -38,7 +38,7 @@ impl PageFields {
         self.load(domain, memory, Access::Read(address), 0)
     }
 
-    /// Fetches a byte under a domain.
+    /// Fetches a byte under a domain. It and `read` are a line each: a load of any access would serve writes too.
     pub fn fetch<M: Memory>(&self, domain: u16, memory: &M, address: usize) -> Result<u8, Refusal>
         ensures { told value result ≡ answered 0 (fault_of (fields_of self.now) domain (Fetch address)) (reply_to (M.Memory.pages memory.now).page (Fetch address)) }
     {
@@ -75,7 +75,7 @@ impl PageFields {
         Ok(memory.read(access.address()))
     }
 
-    // A write, which stands at this place of a visit.
+    // A write, which stands at this place of a visit. The last clause is the memory's own fact, as in `write`.
     pub(crate) fn store<M: Memory>(
         &self,
         domain: u16,

@@ -32,7 +32,8 @@ impl Drop for Restore<'_> {
 }
 
 impl PageFields {
-    /// Makes the access at this place of a visit: the byte that it gives, which of a write is 0.
+    // Makes the access at this place of a visit: the byte that it gives, which of a write is 0. The last clause is the
+    // memory's own fact, as in `write`.
     fn access<M: Memory>(
         &self,
         domain: u16,
@@ -71,7 +72,7 @@ impl PageFields {
     {
         let earlier = mem::replace(register, domain);
         let guard = Restore { register, earlier };
-        // By index, and not by a chain: each access made puts its byte in its own place, up to the first fault.
+        // By index, stopping at a fault: a rule of the project names this form.
         for (i, &access) in accesses.iter().enumerate() {
             match self.access(*guard.register, memory, access, i) {
                 Ok(byte) => buffer[i] = byte,
