@@ -8,8 +8,8 @@ mod patterns;
 pub mod present;
 pub mod speck;
 
-/// Answers 0. Its contract says that the definitions of both ciphers give the published vectors: a theorem stands as the
-/// contract of a function of its own.
+/// Answers 0. Its contract says that the definitions of both ciphers give the published vectors: a theorem stands as
+/// the contract of a function of its own.
 pub fn vectors_hold() -> u8
     ensures { (result ≡ 0) × PublishedVectors }
 {

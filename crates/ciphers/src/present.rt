@@ -63,7 +63,8 @@ fn layer(state: u64) -> u64
         + (column(state >> 24) << 6)
 }
 
-// The key register of 80 bits: its bits 79 to 16, and a number that has its lowest 19 bits; the bits above mean nothing.
+// The key register of 80 bits: its bits 79 to 16, and a number that has its lowest 19 bits, above which the bits mean
+// nothing.
 #[derive(Drop)]
 struct Register {
     upper: u64,

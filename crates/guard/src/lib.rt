@@ -3,6 +3,6 @@
 
 pub mod console;
 pub mod inspection;
-pub mod machine;
+mod machine;
 pub mod tables;
 pub mod turn;

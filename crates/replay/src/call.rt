@@ -3,8 +3,8 @@ use vocabulary::access::Access;
 use vocabulary::parameter::Parameter;
 use vocabulary::refusal::Refusal;
 
-/// A call of the executive, or of the app whose turn it is. A visit brings its buffer. A call is a value and no closure,
-/// since lists of calls are kept, told apart and answered.
+/// A call of the executive, or of the app whose turn it is. A visit brings its buffer. A call is a value and no
+/// closure, since lists of calls are kept, told apart and answered.
 #[derive(Debug, Drop)]
 pub enum Call {
     Create {

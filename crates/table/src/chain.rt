@@ -11,8 +11,8 @@ use one_way::chain::chain;
 use vocabulary::parameter::Parameter;
 use vocabulary::refusal::Refusal;
 
-/// The lowest place whose password an earlier place holds too. By a loop: with `position` and a closure that looks at the
-/// places before, the proof stays open.
+/// The lowest place whose password an earlier place holds too. By a loop: with `position` and a closure that looks at
+/// the places before, the proof stays open.
 #[tactic(auto, using(crate::proofs::Search::repeat_steps))]
 fn first_repeat(passwords: &[u64]) -> Option<usize>
     ensures { result ≡ rules.first_repeat passwords.now }
@@ -25,9 +25,8 @@ fn first_repeat(passwords: &[u64]) -> Option<usize>
     None
 }
 
-/// A new chain, made whole: its high half is admitted, and no password repeats. It stands in eight places with the
-/// length beside them, since there is no heap; that none repeats is told by a clause, since a rule of the project wants the
-/// plain array.
+/// A new chain, made whole: its high half is admitted, and no password repeats. It is a plain array with the length
+/// beside it, since there is no heap; so a clause and no type says that none repeats.
 #[tactic(auto, using(one_way::proofs::Places::front), unfolding(crate::specs::Sound::no_repeat))]
 pub(crate) fn new_chain<F: OneWay>(
     function: &F,

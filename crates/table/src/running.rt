@@ -11,8 +11,8 @@ use one_way::OneWay;
 use vocabulary::parameter::Parameter;
 use vocabulary::refusal::Refusal;
 
-/// The slot table in the turn of the app in a slot, which stays taken until the turn closes. That a call keeps both is said
-/// of each (`SameTurn`), since no type says what a call leaves alone.
+/// The slot table in the turn of the app in a slot, which stays taken until the turn closes. Each call says that it
+/// keeps the slot's number and the table that was lent (`SameTurn`), since no type says what a call leaves alone.
 #[derive(Drop)]
 pub struct Running<'a> {
     slots: &'a mut SlotTable,
