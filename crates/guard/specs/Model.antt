@@ -44,11 +44,11 @@ module _ {F M : Type 0} (function : Function F) (memory : Memory M) where
 
   -- between turns
   abbrev pub between : Console F M → View
-  between c = seen c.machine.fields.now c.slots.now 0 None c.machine.memory
+  between c = seen c.fields.now c.slots.now 0 None c.memory
 
   -- in a turn
   abbrev pub during : Turn F M → View
-  during t = seen t.machine.fields.now t.app.slots.now t.register (Some t.app.own) t.machine.memory
+  during t = seen t.fields.now t.app.slots.now t.register (Some t.app.own) t.memory
 
   -- what the executive looks at
   abbrev pub inspected : Inspection M → View

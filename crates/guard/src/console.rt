@@ -7,21 +7,24 @@ ghost use Rattle.rules.specs.Isolation.{Isolated};
 ghost use Rattle.rules.specs.Runs.{booted};
 
 use crate::inspection::Inspection;
-use crate::machine::Machine;
 use crate::tables::Tables;
 use crate::turn::Turn;
 use memory::Memory;
 use one_way::OneWay;
 use table::running::Running;
 use table::slots::SlotTable;
+use unit::fields::PageFields;
 use unit::reader::read_table;
 use vocabulary::parameter::Parameter;
 use vocabulary::refusal::{Refusal, Refused};
 
-/// The console between turns.
+/// The console between turns. Function, memory and fields stand beside the slots, here and in `Turn`: in a struct of
+/// their own, no function that takes a console by value, for every function and memory, could open a turn and close it.
 #[derive(Drop)]
 pub struct Console<'a, F, M> {
-    pub(crate) machine: Machine<'a, F, M>,
+    pub(crate) function: F,
+    pub(crate) memory: M,
+    pub(crate) fields: &'a PageFields,
     pub(crate) slots: &'a mut SlotTable,
 }
 
@@ -46,11 +49,9 @@ impl<'a, F: OneWay, M: Memory> Console<'a, F, M> {
                 tables.fields = fields;
                 tables.slots = SlotTable::new();
                 Ok(Console {
-                    machine: Machine {
-                        function,
-                        memory,
-                        fields: &tables.fields,
-                    },
+                    function,
+                    memory,
+                    fields: &tables.fields,
                     slots: &mut tables.slots,
                 })
             }
@@ -72,7 +73,7 @@ impl<'a, F: OneWay, M: Memory> Console<'a, F, M> {
         ensures { Obeys (between F.OneWay M.Memory self.old) (exec (rules.create slot parameter master domains.now)) (told (λ _. done) result) (between F.OneWay M.Memory self.new) }
     {
         self.slots
-            .create(&self.machine.function, slot, parameter, master, domains)
+            .create(&self.function, slot, parameter, master, domains)
     }
 
     /// Ends the app in a slot, and frees the slot.
@@ -88,11 +89,17 @@ impl<'a, F: OneWay, M: Memory> Console<'a, F, M> {
     {
         match self.slots.saved(slot) {
             Ok(register) => {
-                let Console { machine, slots } = self;
-                let app = Running::new(slots, slot);
+                let Console {
+                    function,
+                    memory,
+                    fields,
+                    slots,
+                } = self;
                 Ok(Turn {
-                    machine,
-                    app,
+                    function,
+                    memory,
+                    fields,
+                    app: Running::new(slots, slot),
                     register,
                 })
             }
@@ -109,11 +116,11 @@ impl<'a, F: OneWay, M: Memory> Console<'a, F, M> {
         ensures { inspected F.OneWay M.Memory result ≡ between F.OneWay M.Memory self.now }
     {
         Inspection {
-            fields: self.machine.fields,
+            fields: self.fields,
             slots: self.slots,
             register: 0,
             running: None,
-            memory: &self.machine.memory,
+            memory: &self.memory,
         }
     }
 }

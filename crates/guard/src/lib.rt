@@ -3,6 +3,5 @@
 
 pub mod console;
 pub mod inspection;
-mod machine;
 pub mod tables;
 pub mod turn;

@@ -8,10 +8,10 @@ ghost use Rattle.std.specs.Prelude.{◌≡◌};
 
 use crate::console::Console;
 use crate::inspection::Inspection;
-use crate::machine::Machine;
 use memory::Memory;
 use one_way::OneWay;
 use table::running::Running;
+use unit::fields::PageFields;
 use unit::visit::Visited;
 use vocabulary::access::Access;
 use vocabulary::parameter::Parameter;
@@ -19,7 +19,9 @@ use vocabulary::refusal::Refusal;
 
 /// The console in the turn of an app. It is not `Drop`: it has to be closed.
 pub struct Turn<'a, F, M> {
-    pub(crate) machine: Machine<'a, F, M>,
+    pub(crate) function: F,
+    pub(crate) memory: M,
+    pub(crate) fields: &'a PageFields,
     pub(crate) app: Running<'a>,
     pub(crate) register: u16,
 }
@@ -32,13 +34,17 @@ impl<'a, F: OneWay, M: Memory> Turn<'a, F, M> {
         ensures { Obeys (during F.OneWay M.Memory self.entry) (exec rules.close) (accepted done) (between F.OneWay M.Memory result) }
     {
         let Turn {
-            machine,
+            function,
+            memory,
+            fields,
             mut app,
             register,
         } = self;
         app.save(register);
         Console {
-            machine,
+            function,
+            memory,
+            fields,
             slots: app.into_slots(),
         }
     }
@@ -77,16 +83,14 @@ impl<'a, F: OneWay, M: Memory> Turn<'a, F, M> {
     pub fn rekey(&mut self, master: u64, parameter: Parameter) -> Result<(), Refusal>
         ensures { Obeys (during F.OneWay M.Memory self.old) (app (rules.rekey master parameter)) (told (λ _. done) result) (during F.OneWay M.Memory self.new) }
     {
-        self.app.rekey(&self.machine.function, master, parameter)
+        self.app.rekey(&self.function, master, parameter)
     }
 
     /// Reads a byte under the domain in the register.
     pub fn read(&mut self, address: usize) -> Result<u8, Refusal>
         ensures { Obeys (during F.OneWay M.Memory self.old) (app (rules.access (Read address))) (told value result) (during F.OneWay M.Memory self.new) }
     {
-        self.machine
-            .fields
-            .read(self.register, &self.machine.memory, address)
+        self.fields.read(self.register, &self.memory, address)
     }
 
     /// Fetches a byte under the domain in the register. It differs from `read` in the right alone; both are calls by
@@ -94,18 +98,15 @@ impl<'a, F: OneWay, M: Memory> Turn<'a, F, M> {
     pub fn fetch(&mut self, address: usize) -> Result<u8, Refusal>
         ensures { Obeys (during F.OneWay M.Memory self.old) (app (rules.access (Fetch address))) (told value result) (during F.OneWay M.Memory self.new) }
     {
-        self.machine
-            .fields
-            .fetch(self.register, &self.machine.memory, address)
+        self.fields.fetch(self.register, &self.memory, address)
     }
 
     /// Writes a byte under the domain in the register.
     pub fn write(&mut self, address: usize, byte: u8) -> Result<(), Refusal>
         ensures { Obeys (during F.OneWay M.Memory self.old) (app (rules.access (Write address byte))) (told (λ _. done) result) (during F.OneWay M.Memory self.new) }
     {
-        self.machine
-            .fields
-            .write(self.register, &mut self.machine.memory, address, byte)
+        self.fields
+            .write(self.register, &mut self.memory, address, byte)
     }
 
     /// Makes the accesses in order under the domain that the password opens, up to the first fault.
@@ -125,9 +126,15 @@ impl<'a, F: OneWay, M: Memory> Turn<'a, F, M> {
             return Err(Refusal::ShortBuffer);
         }
         let opened = self.app.find(password)?;
-        let Machine { memory, fields, .. } = &mut self.machine;
-        let register = &mut self.register;
-        Ok(fields.visit(register, memory, opened.domain, accesses, buffer))
+        Ok(
+            self.fields.visit(
+                &mut self.register,
+                &mut self.memory,
+                opened.domain,
+                accesses,
+                buffer,
+            ),
+        )
     }
 
     /// Looks at the console in a turn. A trait for both looks would have both bodies, and nothing is generic in them.
@@ -136,11 +143,11 @@ impl<'a, F: OneWay, M: Memory> Turn<'a, F, M> {
     {
         let (slots, own) = self.app.inspect();
         Inspection {
-            fields: self.machine.fields,
+            fields: self.fields,
             slots,
             register: self.register,
             running: Some(own),
-            memory: &self.machine.memory,
+            memory: &self.memory,
         }
     }
 }

@@ -1,4 +1,4 @@
-use Rattle.std.proofs.Common.{refl}
+use Rattle.std.proofs.Common.{Some, refl, ap}
 use Rattle.rules.specs.Calls.{rekey_rule}
 use Rattle.table.specs.Model.{in_turn}
 use Rattle.guard.proofs.Calls.{by_table}
@@ -6,4 +6,4 @@ use Rattle.guard.proofs.turn.Turn.rekey.Goals as goal
 
 -- names no step, so that another call in this one's place leaves the fact open
 pub returns : goal.returns
-returns g c = by_table (in_turn c.args.self.now.app.own (λ k σ. rekey_rule g.F.OneWay.meaning k c.args.self.now.app.own σ c.args.master c.args.parameter)) refl (assumption c) (assumption c)
+returns g c = by_table (in_turn c.args.self.now.app.own (λ k σ. rekey_rule g.F.OneWay.meaning k c.args.self.now.app.own σ c.args.master c.args.parameter)) refl (assumption c) (ap Some (assumption c))
