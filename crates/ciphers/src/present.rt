@@ -1,9 +1,11 @@
 //! PRESENT-80 (ISO/IEC 29192-2): a block of 64 bits, a key of 80, 31 rounds.
-ghost use Rattle.std.specs.Prelude.{◌≡◌, ◌/◌, ◌^◌, ◌<◌};
+ghost use Rattle.std.specs.Prelude.{◌≡◌, ◌/◌, ◌^◌, ◌<◌, refl};
+ghost use Rattle.ciphers.specs.Functions.{present};
 ghost use Rattle.ciphers.specs.Parts.{boxed_top, change as change_of};
 ghost use Rattle.ciphers.specs.Present.{encrypted, key_of, p_layer, s_box_layer, update};
 
 use crate::patterns::column;
+use one_way::OneWay;
 use one_way::block_cipher::BlockCipher;
 use std::marker::Model;
 use vocabulary::parameter::Parameter;
@@ -37,7 +39,7 @@ pub struct Present;
 impl BlockCipher for Present {
     const GREATEST_KEY: u64 = 65_535;
 
-    ghost GREATEST_KEY = { 65535 };
+    ghost GREATEST_KEY = { present.greatest };
 
     ghost encrypted = { λ p. encrypted (key_of p) };
 
@@ -50,6 +52,21 @@ impl BlockCipher for Present {
             state = layer(state) ^ key.round_key();
         }
         state
+    }
+}
+
+/// The password encrypted under the parameter, XOR the password.
+impl OneWay for Present {
+    const GREATEST_HIGH: u64 = Self::GREATEST_KEY;
+
+    ghost GREATEST_HIGH = { present.greatest };
+
+    ghost meaning = { present };
+
+    ghost greatest = { refl };
+
+    fn step(&self, parameter: Parameter, password: u64) -> u64 {
+        Self::feed_forward(parameter, password)
     }
 }
 

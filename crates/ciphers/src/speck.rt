@@ -1,7 +1,9 @@
 //! Speck64/128 (IACR ePrint 2013/404): a block of two words of 32 bits, a key of four, 27 rounds.
-ghost use Rattle.std.specs.Prelude.{◌≡◌, ◌-◌, ◌^◌};
+ghost use Rattle.std.specs.Prelude.{◌≡◌, refl};
+ghost use Rattle.ciphers.specs.Functions.{speck};
 ghost use Rattle.ciphers.specs.Speck.{encrypted, key_of, number, round as round_of, words};
 
+use one_way::OneWay;
 use one_way::block_cipher::BlockCipher;
 use std::marker::Model;
 use vocabulary::parameter::Parameter;
@@ -16,7 +18,7 @@ pub struct Speck;
 impl BlockCipher for Speck {
     const GREATEST_KEY: u64 = u64::MAX;
 
-    ghost GREATEST_KEY = { 2 ^ 64 - 1 };
+    ghost GREATEST_KEY = { speck.greatest };
 
     ghost encrypted = { λ p. encrypted (key_of p) };
 
@@ -34,6 +36,21 @@ impl BlockCipher for Speck {
             key = next_key;
         }
         state.into()
+    }
+}
+
+/// The password encrypted under the parameter, XOR the password.
+impl OneWay for Speck {
+    const GREATEST_HIGH: u64 = Self::GREATEST_KEY;
+
+    ghost GREATEST_HIGH = { speck.greatest };
+
+    ghost meaning = { speck };
+
+    ghost greatest = { refl };
+
+    fn step(&self, parameter: Parameter, password: u64) -> u64 {
+        Self::feed_forward(parameter, password)
     }
 }
 
