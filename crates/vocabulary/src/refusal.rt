@@ -135,7 +135,7 @@ impl Refusal {
 }
 
 /// A refusal that hands back what the call was given.
-#[derive(Debug, Drop)]
+#[derive(Clone, Copy, Debug, Drop)]
 pub struct Refused<T> {
     pub refusal: Refusal,
     pub given_back: T,
