@@ -1,3 +1,4 @@
+pub mod Lent
 pub mod LookUp
 pub mod Masks
 pub mod Reach

@@ -2,12 +2,13 @@ ghost use Rattle.std.specs.Prelude.{◌≡◌, ◌<◌, ◌≤◌, ◌⊎◌, fa
 ghost use Rattle.vocabulary.specs.declared.refusal.Refusal.TheVariants.{NoSuchSlot, SlotFree};
 ghost use Rattle.memory.specs.Pages.{put};
 ghost use Rattle.rules.specs.Console.{done, value, is_none};
-ghost use Rattle.rules.specs.Calls.{create_rule, end_rule, turn_rule, derive_rule};
+ghost use Rattle.rules.specs.Calls.{create_rule, end_rule, turn_rule, grant_rule, revoke_rule, derive_rule, rekey_rule};
 ghost use Rattle.rules.specs.LookUp.{domain_at, search_slots, place_of, passwords_of};
-ghost use Rattle.table.specs.Model.{entry_of, slot_of, slots_of, found_at, in_slot, Answers, Finds, Follows, Turns};
+ghost use Rattle.table.specs.Model.{entry_of, slot_of, slots_of, found_at, in_slot, in_turn, Answers, Finds, Follows, Turns, Closes};
 ghost use Rattle.rules.specs.Told.{told};
 
 use crate::chain::new_chain;
+use crate::running::Running;
 use crate::slot::Slot;
 use one_way::OneWay;
 use vocabulary::found::Found;
@@ -97,6 +98,64 @@ impl SlotTable {
         ensures taken { OnOk result ((slot < 8) × (is_none (slots_of self.now slot) ≡ false)) }
     {
         Ok(self.taken(slot)?.saved)
+    }
+
+    /// Saves the register of the app in a taken slot. This call and the three below are for an owner of the table who
+    /// holds no turn: each takes the turn of the app for itself alone.
+    pub fn save(&mut self, own: usize, register: u16)
+        requires slot { own < 8 }
+        requires taken { is_none (slots_of self.old own) ≡ false }
+        ensures { Closes (slots_of self.old) (slots_of self.new) own register }
+    {
+        Running::new(self, own).save(register);
+    }
+
+    /// Adds a context to the domain at a place of the chain of the app in a taken slot, and answers that domain.
+    pub fn grant(
+        &mut self,
+        own: usize,
+        w: u64,
+        place: usize,
+        context: usize,
+    ) -> Result<u16, Refusal>
+        requires slot { own < 8 }
+        requires taken { is_none (slots_of self.old own) ≡ false }
+        ensures follows { Follows (slots_of self.old) (slots_of self.new) (told value result) (in_turn own (λ k σ. grant_rule k own σ w place context)) }
+        ensures taken { is_none (slots_of self.new own) ≡ false }
+    {
+        Running::new(self, own).grant(w, place, context)
+    }
+
+    /// Removes a context likewise.
+    pub fn revoke(
+        &mut self,
+        own: usize,
+        w: u64,
+        place: usize,
+        context: usize,
+    ) -> Result<u16, Refusal>
+        requires slot { own < 8 }
+        requires taken { is_none (slots_of self.old own) ≡ false }
+        ensures follows { Follows (slots_of self.old) (slots_of self.new) (told value result) (in_turn own (λ k σ. revoke_rule k own σ w place context)) }
+        ensures taken { is_none (slots_of self.new own) ≡ false }
+    {
+        Running::new(self, own).revoke(w, place, context)
+    }
+
+    /// Gives the app in a taken slot a new parameter and its chain, made whole beside the old one.
+    pub fn rekey<F: OneWay>(
+        &mut self,
+        function: &F,
+        own: usize,
+        w: u64,
+        parameter: Parameter,
+    ) -> Result<(), Refusal>
+        requires slot { own < 8 }
+        requires taken { is_none (slots_of self.old own) ≡ false }
+        ensures follows { Follows (slots_of self.old) (slots_of self.new) (told (λ _. done) result) (in_turn own (λ k σ. rekey_rule F.OneWay.meaning k own σ w parameter)) }
+        ensures taken { is_none (slots_of self.new own) ≡ false }
+    {
+        Running::new(self, own).rekey(function, w, parameter)
     }
 
     /// The password `n` places after `w` in the chain of the app in a taken slot.
