@@ -23,7 +23,7 @@ swap true false d v w = refl
 swap false true d v w = refl
 swap false false d v w = refl
 
-rows_swap : (v w : Row) (f : Fields) → row_set v (row_set w f) ≡ row_set w (row_set v f)
+pub rows_swap : (v w : Row) (f : Fields) → row_set v (row_set w f) ≡ row_set w (row_set v f)
 rows_swap v w f = fun_ext (λ x. fun_ext (λ q. swap (covers v x q) (covers w x q) (f x q) v.context w.context))
 
 -- fields with rows set, the first of them first

@@ -1,6 +1,5 @@
 use crate::report::Report;
 use memory::Memory;
-use memory::address::split;
 use memory::end_to_end::EndToEnd;
 use memory::ram::Ram;
 use memory::rom::Rom;
@@ -130,8 +129,7 @@ fn end_to_end(report: &mut Report<impl Print>, alloc: Global, border: usize) -> 
     let mut low = vec![in alloc; 7u8; 16_384]?;
     let high = vec![in alloc; 5u8; 16_384]?;
     let mut memory = EndToEnd::new(border, Ram::new(&mut low), Rom::new(&high));
-    for address in [255, 511, 16_127, 16_383] {
-        let (page, _) = split(address);
+    for (page, address) in [(0, 255), (1, 511), (62, 16_127), (63, 16_383)] {
         let probe = if page < border {
             Probe::stored(address, 7, 9)
         } else {
