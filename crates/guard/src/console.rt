@@ -18,8 +18,8 @@ use unit::reader::read_table;
 use vocabulary::parameter::Parameter;
 use vocabulary::refusal::{Refusal, Refused};
 
-/// The console between turns. Function, memory and fields stand beside the slots, here and in `Turn`: in a struct of
-/// their own, no function that takes a console by value, for every function and memory, could open a turn and close it.
+/// The console between turns. Function, memory and fields stand beside the slots, here and in `Turn`, and in no struct of
+/// their own: with one, the check covers no caller, generic in both, that takes a console, opens a turn and lets it go.
 #[derive(Drop)]
 pub struct Console<'a, F, M> {
     pub(crate) function: F,
