@@ -44,10 +44,12 @@ impl PageFields {
         ensures visit { (rest : List Access) → begun result (M.Memory.pages memory.new).page (visiting (fields_of self.now) (M.Memory.effect memory.old) rest domain (M.Memory.pages memory.new).page (suc place)) ≡ visiting (fields_of self.now) (M.Memory.effect memory.old) (access ∷ rest) domain (M.Memory.pages memory.old).page place }
         ensures effect { M.Memory.effect memory.new ≡ M.Memory.effect memory.old }
     {
+        // One check for all three kinds, and not one in `load` and one in `store`: a visit of few accesses is shorter so.
+        self.check(domain, access, place)?;
         match access {
-            Access::Read(_) | Access::Fetch(_) => self.load(domain, memory, access, place),
+            Access::Read(address) | Access::Fetch(address) => Ok(memory.read(address)),
             Access::Write(address, byte) => {
-                self.store(domain, memory, address, byte, place)?;
+                memory.write(address, byte);
                 Ok(0)
             }
         }
