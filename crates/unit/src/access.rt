@@ -61,7 +61,7 @@ impl PageFields {
         self.store(domain, memory, address, byte, 0)
     }
 
-    // A read or a fetch, which stands at this place of a visit: the byte that it gives.
+    // A read or a fetch, with its place, which is 0 outside a visit: the byte that it gives.
     pub(crate) fn load<M: Memory>(
         &self,
         domain: u16,
@@ -75,7 +75,7 @@ impl PageFields {
         Ok(memory.read(access.address()))
     }
 
-    // A write, which stands at this place of a visit. The last clause is the memory's own fact, as in `write`.
+    // A write, with its place likewise. The last clause is the memory's own fact, as in `write`.
     pub(crate) fn store<M: Memory>(
         &self,
         domain: u16,
